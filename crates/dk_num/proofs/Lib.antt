@@ -1,0 +1,21 @@
+pub mod Digits
+pub mod Canonical
+pub mod Powers
+pub mod Sums
+pub mod Orders
+pub mod Lengths
+pub mod Bodies
+pub mod Numerals
+pub mod Significands
+pub mod ReadingValues
+pub mod Cuts
+pub mod Spellings
+pub mod Readings
+pub mod Fronts
+mod WorkedRows
+pub mod Leading
+pub mod Multiples
+pub mod Scaling
+pub mod Endings
+pub mod Values
+pub mod ValueLaws

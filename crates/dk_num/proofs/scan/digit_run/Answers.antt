@@ -1,0 +1,10 @@
+use Rattle.std.proofs.Common.{sym, ◌∙◌, arith, length}
+use Rattle.std.proofs.lemmas.List.Sums.{prefix_len_is}
+use Rattle.dk_num.specs.Numbers.{is_digit}
+use Rattle.dk_num.proofs.scan.digit_run.Goals as goal
+
+pub returns-then-not-is_digit-clause-run : goal.returns-then-not-is_digit-clause-run
+returns-then-not-is_digit-clause-run c = sym (prefix_len_is is_digit c.args.text.now c.loop-i.i 0 (omega arith) c.loop-i.invariant (λ h. sym c.is_digit.ensures ∙ c.if-not-is_digit.true))
+
+pub returns-clause-run : goal.returns-clause-run
+returns-clause-run c = sym (prefix_len_is is_digit c.args.text.now (length c.args.text.now) 0 (omega arith) (λ k h. c.loop-i.invariant k (omega arith)) (λ h. absurd (omega arith)))

@@ -1,0 +1,6 @@
+pub mod Decimal
+pub mod Arithmetic
+pub mod Texts
+pub mod Numbers
+pub mod Reading
+pub mod Units
