@@ -1,0 +1,5 @@
+pub mod Causes
+pub mod Sinks
+pub mod Sources
+pub mod Benches
+pub mod Flows
