@@ -1,0 +1,16 @@
+//! A study, its points and its rows, and the definitions of what its evaluation gives and of the texts that tell it.
+#![tactic(auto)]
+
+pub mod laws;
+pub mod lists;
+pub mod rows;
+pub mod study;
+#[cfg(test)]
+mod tests;
+
+pub use dk_outside::Text;
+pub use lists::{Decs, Labels, Units};
+pub use rows::Row;
+pub use study::{
+    Driver, Ending, FailRule, Interface, Method, Responses, Study, Variables, Way, Why,
+};

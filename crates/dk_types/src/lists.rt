@@ -1,0 +1,130 @@
+// Small types over vectors, which contracts see as lists.
+ghost use Rattle.std.specs.Prelude.{◌≡◌, IfOk};
+
+use dk_num::Dec;
+use dk_outside::Text;
+use dk_outside::texts::copy_texts;
+use std::alloc::{AllocError, Global};
+use std::marker::Model;
+
+/// Labels in order.
+#[derive(Drop)]
+pub struct Labels {
+    items: Vec<Text>,
+}
+
+impl Model for Labels {
+    ghost use Rattle.std.specs.Prelude.{List, ℕ};
+
+    ghost Value = { List (List ℕ) };
+
+    ghost view = { λ l. l.items.items };
+}
+
+impl Labels {
+    /// The same labels, owned.
+    pub fn of(alloc: Global, items: &[Text]) -> Result<Labels, AllocError>
+        ensures { IfOk result (λ l. l ≡ items.now) }
+    {
+        Ok(Labels {
+            items: copy_texts(alloc, items)?,
+        })
+    }
+
+    pub fn items(&self) -> &[Text]
+        ensures { result.now ≡ self.now }
+    {
+        &self.items
+    }
+
+    /// Equal labels.
+    pub fn copy(&self, alloc: Global) -> Result<Labels, AllocError>
+        ensures { IfOk result (λ l. l ≡ self.now) }
+    {
+        Labels::of(alloc, self.items())
+    }
+}
+
+/// Whole numbers of a study's unit, in order.
+#[derive(Drop)]
+pub struct Units {
+    items: Vec<i128>,
+}
+
+impl Model for Units {
+    ghost use Rattle.std.specs.Prelude.{List, ℤ};
+
+    ghost Value = { List ℤ };
+
+    ghost view = { λ u. u.items.items };
+}
+
+impl Units {
+    /// The same numbers, owned.
+    pub fn of(alloc: Global, items: &[i128]) -> Result<Units, AllocError>
+        ensures { IfOk result (λ u. u ≡ items.now) }
+    {
+        Ok(Units {
+            items: Vec::from_slice(alloc, items)?,
+        })
+    }
+
+    pub fn items(&self) -> &[i128]
+        ensures { result.now ≡ self.now }
+    {
+        &self.items
+    }
+
+    /// Equal numbers.
+    pub fn copy(&self, alloc: Global) -> Result<Units, AllocError>
+        ensures { IfOk result (λ u. u ≡ self.now) }
+    {
+        Units::of(alloc, self.items())
+    }
+}
+
+/// Decimals in order, as a point or its values.
+#[derive(Drop)]
+pub struct Decs {
+    items: Vec<Dec>,
+}
+
+impl Model for Decs {
+    ghost use Rattle.std.specs.Prelude.{List};
+    ghost use Rattle.dk_num.specs.Decimal.{Decimal};
+
+    ghost Value = { List Decimal };
+
+    ghost view = { λ d. d.items.items };
+}
+
+impl Decs {
+    /// The same decimals, owned.
+    pub fn of(alloc: Global, items: &[Dec]) -> Result<Decs, AllocError>
+        ensures { IfOk result (λ d. d ≡ items.now) }
+    {
+        Ok(Decs {
+            items: Vec::from_slice(alloc, items)?,
+        })
+    }
+
+    /// The decimals of a vector, which takes no memory.
+    pub fn of_vec(items: Vec<Dec>) -> Decs
+        ensures { result ≡ items.items }
+    {
+        Decs { items }
+    }
+
+    pub fn items(&self) -> &[Dec]
+        ensures { result.now ≡ self.now }
+    {
+        &self.items
+    }
+
+    /// Equal decimals.
+    pub fn copy(&self, alloc: Global) -> Result<Decs, AllocError>
+        ensures { IfOk result (λ d. d ≡ self.now) }
+    {
+        Decs::of(alloc, self.items())
+    }
+}
