@@ -1,0 +1,11 @@
+pub mod BestRows
+pub mod Bounds
+pub mod Complete
+pub mod Cuts
+pub mod Decided
+pub mod Evaluations
+pub mod FormReadings
+pub mod Parts
+pub mod Repeats
+pub mod Steps
+pub mod Saying

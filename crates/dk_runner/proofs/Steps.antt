@@ -1,0 +1,78 @@
+-- Which texts are a number of steps.
+use Rattle.std.proofs.Common.{◌≡◌, ℕ, zero, suc, ◌+◌, ◌-◌, ◌*◌, ◌<◌, ◌≤◌, ◌&&◌, Bool, true, false, List, [], ◌∷◌, length, drop, get_or, Option, Some, None, refl, ap, sym, ◌∙◌, arith, nat_lt, nat_le}
+use Rattle.std.specs.List.{list_all}
+use Rattle.std.proofs.lemmas.Grind.{common_steps}
+use Rattle.std.proofs.lemmas.List.{at_drop_more, at_drop_all}
+use Rattle.std.proofs.Math.Nat.{le_trans}
+use Rattle.dk_num.specs.Numbers.{is_digit, numeral_value}
+use Rattle.dk_num.specs.Reading.{after_digits}
+use Rattle.dk_runner.specs.Numbers.{steps_of}
+
+-- further digits make a number no smaller
+grows : (n : ℕ) (ds : List ℕ) → n ≤ after_digits n ds
+grows n [] = omega arith
+grows n (d ∷ ds) = let more : n * 10 + (d - 48) ≤ after_digits (n * 10 + (d - 48)) ds = grows (n * 10 + (d - 48)) ds in omega arith
+
+-- a text whose first i bytes are digits of the number n
+pub record StepsSoFar (text : List ℕ) (i n : ℕ) : Type 0 where
+  pub value : after_digits n (drop i text) ≡ numeral_value text
+  pub digits : list_all is_digit (drop i text) ≡ list_all is_digit text
+  pub few : n ≤ 10000
+
+pub none_so_far : (text : List ℕ) → StepsSoFar text 0 0
+none_so_far text = record { value = refl; digits = refl; few = omega arith }
+
+-- the number with the next digit, which may be too great
+record NextStep (text : List ℕ) (i n : ℕ) : Type 0 where
+  value : after_digits n (drop i text) ≡ numeral_value text
+  digits : list_all is_digit (drop i text) ≡ list_all is_digit text
+
+next_step : (text : List ℕ) (i n b m : ℕ) → i < length text → b ≡ get_or text i b → is_digit b ≡ true → m ≡ 10 * n + (b - 48) → StepsSoFar text i n → NextStep text (i + 1) m
+next_step text i n b m h is digit e was = record {
+  value =
+      let same : m ≡ n * 10 + (get_or text i b - 48) = omega arith in
+      ap (λ k. after_digits k (drop (i + 1) text)) same ∙ sym (at_drop_more (after_digits n) text i b h) ∙ was.value;
+  digits =
+      let one : list_all is_digit (get_or text i b ∷ drop (i + 1) text) ≡ list_all is_digit (drop (i + 1) text) = rw (← is, digit) refl in
+      sym one ∙ sym (at_drop_more (list_all is_digit) text i b h) ∙ was.digits;
+}
+
+pub step_further : (text : List ℕ) (i n b m : ℕ) → i < length text → b ≡ get_or text i b → is_digit b ≡ true → m ≡ 10 * n + (b - 48) → m ≤ 10000 → StepsSoFar text i n → StepsSoFar text (i + 1) m
+step_further text i n b m h is digit e few was = let s = next_step text i n b m h is digit e was in record { value = s.value; digits = s.digits; few = few }
+
+not_digits : (text : List ℕ) → list_all is_digit text ≡ false → steps_of text ≡ None
+not_digits text e = at (nat_lt 0 (length text)) refl
+  where
+    at : (b : Bool) → nat_lt 0 (length text) ≡ b → steps_of text ≡ None
+    at true f = rw (f, e) refl
+    at false f = rw f refl
+
+pub no_digit : (text : List ℕ) (i n b : ℕ) → i < length text → b ≡ get_or text i b → is_digit b ≡ false → StepsSoFar text i n → steps_of text ≡ None
+no_digit text i n b h is e was =
+    let none : list_all is_digit (get_or text i b ∷ drop (i + 1) text) ≡ false = rw (← is, e) refl in
+    not_digits text (sym was.digits ∙ at_drop_more (list_all is_digit) text i b h ∙ none)
+
+pub too_many : (text : List ℕ) (i n b m : ℕ) → i < length text → b ≡ get_or text i b → is_digit b ≡ true → m ≡ 10 * n + (b - 48) → 10000 < m → StepsSoFar text i n → steps_of text ≡ None
+too_many text i n b m h is digit e many was = at (nat_lt 0 (length text)) (list_all is_digit text) refl refl
+  where
+    s : NextStep text (i + 1) m
+    s = next_step text i n b m h is digit e was
+
+    great : nat_le (numeral_value text) 10000 ≡ false
+    great = let more = grows m (drop (i + 1) text) in let v = s.value in grind (arith, common_steps)
+
+    at : (x y : Bool) → nat_lt 0 (length text) ≡ x → list_all is_digit text ≡ y → steps_of text ≡ None
+    at true true f g = rw (f, g, great) refl
+    at true false f g = rw (f, g) refl
+    at false y f g = rw f refl
+
+pub steps_read : (text : List ℕ) (i n : ℕ) → length text ≤ i → 0 < length text → StepsSoFar text i n → steps_of text ≡ Some n
+steps_read text i n h some was =
+    let value : n ≡ numeral_value text = sym (at_drop_all (after_digits n) text i h) ∙ was.value in
+    let digits : list_all is_digit text ≡ true = sym was.digits ∙ at_drop_all (list_all is_digit) text i h in
+    let one : nat_lt 0 (length text) ≡ true = grind (arith, common_steps) in
+    let few : nat_le (numeral_value text) 10000 ≡ true = let f = was.few in grind (arith, common_steps) in
+    rw (one, digits, few) (ap Some (sym value))
+
+pub no_steps : (text : List ℕ) → length text ≡ 0 → steps_of text ≡ None
+no_steps text e = let none : nat_lt 0 (length text) ≡ false = grind (arith, common_steps) in rw none refl

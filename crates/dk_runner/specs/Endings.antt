@@ -1,0 +1,98 @@
+-- How a run ends, status by status. The clauses of the top call follow from it.
+use Rattle.std.specs.Prelude.{◌≡◌, ℕ, List, [], Option, Result, Ok, Err, IfSome}
+use Rattle.dk_outside.specs.Causes.{Rose}
+use Rattle.dk_outside.specs.Sinks.{Held, Grows, GrowsByFront}
+use Rattle.dk_types.specs.declared.study.Study.{Study}
+use Rattle.dk_types.specs.declared.study.Ending.{Ending}
+use Rattle.dk_types.specs.declared.rows.Row.{Row}
+use Rattle.dk_types.specs.Texts.{table, summary}
+use Rattle.dk_runner.specs.Words.{IsRun, Misused}
+use Rattle.dk_runner.specs.Form.{Reads, Refused}
+use Rattle.dk_runner.specs.Lines.{line, status_of}
+use Rattle.dk_runner.specs.Headline.{Written, BreaksTable, BreaksSummary, Says, HasTable, HasFront}
+use Rattle.dk_runner.specs.declared.status.Status.{Status}
+use Rattle.dk_runner.specs.declared.status.Status.TheVariants.{Finished, Aborted, Usage, StudyRefused, SourceFault, SinkFault, NoMemory}
+use Rattle.dk_runner.specs.declared.status.StudyKind.{StudyKind}
+use Rattle.dk_runner.specs.declared.status.Which.TheVariants.{Table, Out}
+
+abbrev pub refused_as : StudyKind → Status
+refused_as kind = StudyRefused (record { kind = kind; span = record { from = 0; to = 0 } })
+
+-- a text is a study's, or why it isn't accepted
+abbrev pub IsTextReason : List ℕ → Result Study Status → Type 0
+IsTextReason text (Ok study) = Reads text study
+IsTextReason text (Err (StudyRefused fault)) = Refused text fault
+IsTextReason text (Err NoMemory) = Unit {0}
+IsTextReason text (Err _) = ⊥
+
+-- why no study is evaluated
+abbrev pub IsCause : (words : List (List ℕ)) (left : Option (List ℕ)) (before now : ℕ) → Status → Type 0
+IsCause words left before now (Usage at) = Misused words at
+IsCause words left before now (StudyRefused fault) = IsRun words × IfSome left (λ text. Refused text fault)
+IsCause words left before now SourceFault = IsRun words × Rose before now
+IsCause words left before now NoMemory = IsRun words
+IsCause words left before now _ = ⊥
+
+-- the words are a run's and the text is a study's, or the cause why not
+abbrev pub IsReason : (words : List (List ℕ)) (left : Option (List ℕ)) (before now : ℕ) → Result Study Status → Type 0
+IsReason words left before now (Ok study) = IsRun words × IfSome left (λ text. Reads text study)
+IsReason words left before now (Err status) = IsCause words left before now status
+
+-- how the summary of a decided study was written
+abbrev pub Summarizes : Study → List Row → Ending → (out_old out_new : Option Held) (before now : ℕ) → Status → Type 0
+Summarizes study rows ending out_old out_new before now Finished = (Finished ≡ status_of ending) × Grows out_old out_new (summary study rows ending)
+Summarizes study rows ending out_old out_new before now Aborted = (Aborted ≡ status_of ending) × Grows out_old out_new (summary study rows ending)
+Summarizes study rows ending out_old out_new before now (SinkFault Out) = Rose before now × GrowsByFront out_old out_new (summary study rows ending)
+Summarizes study rows ending out_old out_new before now _ = ⊥
+
+-- how both texts of a decided study were written
+abbrev pub Reports : Study → List Row → Ending → (table_old table_new : Option Held) (table_before table_now : ℕ) (out_old out_new : Option Held) (out_before out_now : ℕ) → Status → Type 0
+Reports study rows ending table_old table_new table_before table_now out_old out_new out_before out_now (SinkFault Table) =
+    Rose table_before table_now × HasFront study (table study rows) table_old table_new × Says out_old out_new out_before out_now (line (SinkFault Table))
+Reports study rows ending table_old table_new table_before table_now out_old out_new out_before out_now status =
+    HasTable study (table study rows) table_old table_new × Summarizes study rows ending out_old out_new out_before out_now status
+
+-- the words, and what the source and the sinks hold and count before and after
+pub record Scene : Type 0 where
+  pub words : List (List ℕ)
+  pub left : Option (List ℕ)
+  pub source_before : ℕ
+  pub source_now : ℕ
+  pub table_old : Option Held
+  pub table_new : Option Held
+  pub table_before : ℕ
+  pub table_now : ℕ
+  pub out_old : Option Held
+  pub out_new : Option Held
+  pub out_before : ℕ
+  pub out_now : ℕ
+
+abbrev pub scene : List (List ℕ) → Option (List ℕ) → ℕ → ℕ → Option Held → Option Held → ℕ → ℕ → Option Held → Option Held → ℕ → ℕ → Scene
+scene words left source_before source_now table_old table_new table_before table_now out_old out_new out_before out_now = record {
+  words = words;
+  left = left;
+  source_before = source_before;
+  source_now = source_now;
+  table_old = table_old;
+  table_new = table_new;
+  table_before = table_before;
+  table_now = table_now;
+  out_old = out_old;
+  out_new = out_new;
+  out_before = out_before;
+  out_now = out_now;
+}
+
+abbrev pub SaysLine : Scene → Status → Type 0
+SaysLine s status = Says s.out_old s.out_new s.out_before s.out_now (line status)
+
+-- a run before whose end the table stays untouched
+abbrev pub EndsEarly : Scene → (untouched : Type 0) → Status → Type 0
+EndsEarly s untouched status = IsCause s.words s.left s.source_before s.source_now status × untouched × SaysLine s status
+
+abbrev pub EndsSo : Scene → (untouched : Type 0) → Status → Type 0
+EndsSo s untouched Finished = IsRun s.words × IfSome s.left (λ text. Written text Finished s.table_old s.table_new s.out_old s.out_new)
+EndsSo s untouched Aborted = IsRun s.words × IfSome s.left (λ text. Written text Aborted s.table_old s.table_new s.out_old s.out_new)
+EndsSo s untouched (SinkFault Table) = IsRun s.words × Rose s.table_before s.table_now × IfSome s.left (λ text. BreaksTable text s.table_old s.table_new) × SaysLine s (SinkFault Table)
+EndsSo s untouched (SinkFault Out) = IsRun s.words × Rose s.out_before s.out_now × IfSome s.left (λ text. BreaksSummary text s.table_old s.table_new s.out_old s.out_new)
+EndsSo s untouched status = EndsEarly s untouched status

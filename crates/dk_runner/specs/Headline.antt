@@ -1,0 +1,78 @@
+-- What a run has written, and why it ended so.
+use Rattle.std.specs.Prelude.{◌≡◌, ◌⊎◌, ℕ, List, [], ◌∷◌, ◌++◌, Option, Some, None, IfSome, Result, MatchResult}
+use Rattle.dk_outside.specs.Causes.{Rose}
+use Rattle.dk_outside.specs.Sinks.{Held, Keeps, Grows, GrowsByFront, begun_with, with_more}
+use Rattle.dk_types.specs.declared.study.Study.{Study}
+use Rattle.dk_types.specs.declared.study.Ending.{Ending}
+use Rattle.dk_types.specs.declared.rows.Row.{Row}
+use Rattle.dk_types.specs.Solo.{Solo, rosenbrock_child}
+use Rattle.dk_types.specs.Texts.{table, summary}
+use Rattle.dk_runner.specs.Form.{Reads, Refused}
+use Rattle.dk_runner.specs.Lines.{status_of}
+use Rattle.dk_runner.specs.declared.status.Status.{Status}
+use Rattle.dk_runner.specs.declared.status.Status.TheVariants.{StudyRefused, NoMemory}
+use Rattle.dk_runner.specs.declared.status.StudyFault.{StudyFault}
+
+-- a study's text, its rows and its ending, where it is evaluated one point at a time
+pub record Evaluates (text : List ℕ) (study : Study) (rows : List Row) (ending : Ending) : Type 0 where
+  pub reads : Reads text study
+  pub alone : Solo study rosenbrock_child [] rows ending
+
+-- the sink was begun with the table's name and has taken these bytes and nothing else, where the study asks for one
+abbrev pub HasTable : Study → List ℕ → (old new : Option Held) → Type 0
+HasTable study bytes old new = elim study.table [ None ↦ Keeps old new | Some name ↦ IfSome old (λ _. new ≡ Some (begun_with name bytes)) ]
+
+-- it holds what it held, or was begun and has taken a front of these bytes
+pub record HasFront (study : Study) (bytes : List ℕ) (old new : Option Held) : Type 0 where
+  pub front : List ℕ
+  pub rest : List ℕ
+  pub whole : front ++ rest ≡ bytes
+  pub holds : Keeps old new ⊎ HasTable study front old new
+
+-- the whole table at Ok, and no more than a front of it at Err
+abbrev pub WritesTable : {E : Type 0} → Study → List ℕ → (old new : Option Held) → Result (Unit {0}) E → Type 0
+WritesTable study bytes old new result = MatchResult result (λ _. HasTable study bytes old new) (λ _. HasFront study bytes old new)
+
+-- the table and the summary are written whole
+pub record Written (text : List ℕ) (status : Status) (table_old table_new out_old out_new : Option Held) : Type 0 where
+  pub study : Study
+  pub rows : List Row
+  pub ending : Ending
+  pub evaluates : Evaluates text study rows ending
+  pub status_is : status ≡ status_of ending
+  pub in_table : HasTable study (table study rows) table_old table_new
+  pub in_out : Grows out_old out_new (summary study rows ending)
+
+-- the table's sink failed: it holds what it held, or was begun and has taken a front of the table
+pub record BreaksTable (text : List ℕ) (old new : Option Held) : Type 0 where
+  pub study : Study
+  pub rows : List Row
+  pub ending : Ending
+  pub evaluates : Evaluates text study rows ending
+  pub in_table : HasFront study (table study rows) old new
+
+-- `out` failed: it has taken a front of the summary, and the table is written whole
+pub record BreaksSummary (text : List ℕ) (table_old table_new out_old out_new : Option Held) : Type 0 where
+  pub study : Study
+  pub rows : List Row
+  pub ending : Ending
+  pub evaluates : Evaluates text study rows ending
+  pub in_table : HasTable study (table study rows) table_old table_new
+  pub in_out : GrowsByFront out_old out_new (summary study rows ending)
+
+-- the sink wasn't begun, and has taken some bytes more, or none
+abbrev pub OnlyGrows : (old new : Option Held) → Type 0
+OnlyGrows old new = IfSome old (λ held. (bytes : List ℕ) × (new ≡ Some (with_more held bytes)))
+
+-- the text was taken, or, only where a count rose, a front of it
+abbrev pub Says : (old new : Option Held) (before now : ℕ) → List ℕ → Type 0
+Says old new before now text = Grows old new text ⊎ (Rose before now × GrowsByFront old new text)
+
+-- where the text is refused the status says so, unless memory ran out
+abbrev pub TellsRefusal : List ℕ → Status → Type 0
+TellsRefusal text status = (fault : StudyFault) → Refused text fault → (status ≡ StudyRefused fault) ⊎ (status ≡ NoMemory)
+
+-- where the text is a study's the status is that of its evaluation, unless memory ran out
+abbrev pub EndsAsEvaluated : List ℕ → Status → Type 0
+EndsAsEvaluated text status =
+    (study : Study) (rows : List Row) (ending : Ending) → Evaluates text study rows ending → (status ≡ status_of ending) ⊎ (status ≡ NoMemory)

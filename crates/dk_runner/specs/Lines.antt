@@ -1,0 +1,59 @@
+-- The line of a status on `out`, and the exit status.
+use Rattle.std.specs.Prelude.{ℕ, Bool, true, false, List, [], ◌++◌, codes, decimal}
+use Rattle.dk_types.specs.declared.study.Ending.{Ending}
+use Rattle.dk_types.specs.declared.study.Ending.TheVariants.{Finished as EndingFinished, Aborted as EndingAborted}
+use Rattle.dk_runner.specs.declared.status.Status.{Status}
+use Rattle.dk_runner.specs.declared.status.Status.TheVariants.{Finished, Aborted, Usage, StudyRefused, SourceFault, SinkFault, NoMemory}
+use Rattle.dk_runner.specs.declared.status.StudyKind.{StudyKind}
+use Rattle.dk_runner.specs.declared.status.StudyKind.TheVariants.{TooLong, Unsupported, OffGrid}
+use Rattle.dk_runner.specs.declared.status.Which.TheVariants.{Table, Out}
+
+abbrev pub code : Status → ℕ
+code Finished = 0
+code Aborted = 1
+code (Usage at) = 2
+code (StudyRefused fault) = 3
+code SourceFault = 4
+code (SinkFault which) = 9
+code NoMemory = 10
+
+abbrev pub kind_text : StudyKind → List ℕ
+kind_text TooLong = codes "TooLong"
+kind_text Unsupported = codes "Unsupported"
+kind_text OffGrid = codes "OffGrid"
+
+abbrev pub line : Status → List ℕ
+line Finished = []
+line Aborted = []
+line (Usage at) = codes "dakota: usage: word " ++ (decimal at ++ codes "\n")
+line (StudyRefused fault) =
+    codes "dakota: study refused: " ++ (kind_text fault.kind ++ (codes " at bytes " ++ (decimal fault.span.from ++ (codes ".." ++ (decimal fault.span.to ++ codes "\n")))))
+line SourceFault = codes "dakota: study not readable\n"
+line (SinkFault Table) = codes "dakota: table not written\n"
+line (SinkFault Out) = []
+line NoMemory = codes "dakota: out of memory\n"
+
+abbrev pub status_of : Ending → Status
+status_of (EndingFinished why) = Finished
+status_of (EndingAborted evaluation attempts) = Aborted
+
+-- the study was decided, and all text was written
+abbrev pub is_decided : Status → Bool
+is_decided Finished = true
+is_decided Aborted = true
+is_decided _ = false
+
+-- the table wasn't begun
+abbrev pub is_early : Status → Bool
+is_early (Usage at) = true
+is_early (StudyRefused fault) = true
+is_early SourceFault = true
+is_early NoMemory = true
+is_early _ = false
+
+-- `out` got the line of the status
+abbrev pub has_line : Status → Bool
+has_line Finished = false
+has_line Aborted = false
+has_line (SinkFault Out) = false
+has_line _ = true

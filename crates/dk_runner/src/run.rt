@@ -1,0 +1,207 @@
+// The top call.
+ghost use Rattle.std.specs.Prelude.{◌≡◌, ℕ, ◌≤◌, [], length, map, IfErr, IfOk, IfSome, IsTrue, OnOk, Some, string_bytes};
+ghost use Rattle.dk_outside.specs.Causes.{Rose};
+ghost use Rattle.dk_types.specs.Solo.{Solo, rosenbrock_child};
+ghost use Rattle.dk_types.specs.Sound.{IsSound};
+ghost use Rattle.dk_runner.specs.Words.{IsRun, Misused};
+ghost use Rattle.dk_runner.specs.Form.{Refused};
+ghost use Rattle.dk_runner.specs.Lines.{line, status_of as status_of_lem, is_decided, is_early, has_line};
+ghost use Rattle.dk_runner.specs.Headline.{Written, BreaksTable, BreaksSummary, Says, OnlyGrows, EndsAsEvaluated, TellsRefusal};
+ghost use Rattle.dk_runner.specs.Endings.{IsReason, IsTextReason, refused_as, EndsSo, Reports, Summarizes, scene};
+ghost use Rattle.dk_runner.specs.declared.status.StudyFault.{StudyFault};
+
+use crate::evaluate::{Ran, evaluate};
+use crate::form::{FormFault, read_form};
+use crate::refusal::say;
+use crate::summary::write_summary;
+use crate::table::write_table;
+use crate::words::usage;
+use crate::{Span, Status, StudyFault, StudyKind, Which};
+use dk_outside::source::{TextFault, read_text};
+use dk_outside::{Bench, Disk, Failed, Sink, Source};
+use dk_types::{Ending, Study};
+use std::alloc::Global;
+
+/// What a run leaves: how it ended, and the restart file and the benches that it was given.
+#[derive(Drop)]
+pub struct Ended<K, B> {
+    pub status: Status,
+    pub restart: K,
+    pub benches: Vec<B>,
+}
+
+/// Does all that the program does.
+///
+/// The words are `-i FILE`, and `study` is the source over that file. Its text is read, the study is evaluated one
+/// point after another up to the first point without a value, and the table and then the summary are written.
+pub fn dakota<S: Source, K: Disk, T: Sink, U: Sink, B: Bench>(
+    alloc: Global,
+    words: &[String],
+    study: &mut S,
+    restart: K,
+    table: &mut T,
+    out: &mut U,
+    benches: Vec<B>,
+) -> Ended<K, B>
+    // A run that finishes or aborts writes the table and the summary of evaluating the study one point at a time.
+    ensures decided { IsTrue (is_decided result.status) → IfSome (S.left study.old) (λ text.
+        Written text result.status (T.held table.old) (T.held table.new) (U.held out.old) (U.held out.new)) }
+
+    // The study's text was taken to its end then.
+    ensures taken { IsTrue (is_decided result.status) → IfSome (S.left study.old) (λ _. S.left study.new ≡ Some []) }
+
+    // The words are refused exactly where they aren't those of a run.
+    ensures usage { (at : ℕ) → result.status ≡ Status.Usage at → Misused (map string_bytes words.now) at }
+    ensures misused { (at : ℕ) → Misused (map string_bytes words.now) at → result.status ≡ Status.Usage at }
+
+    // A study is refused only by its text, and always where its source didn't fail.
+    ensures refused { (fault : StudyFault) → result.status ≡ Status.StudyRefused fault → IfSome (S.left study.old) (λ text. Refused text fault) }
+    ensures refusal_told { IsRun (map string_bytes words.now) → ¬ Rose (S.faults study.old) (S.faults study.new) →
+        IfSome (S.left study.old) (λ text. TellsRefusal text result.status) }
+
+    // A fault of the outside is answered only where that object's count of faults rose.
+    ensures source { result.status ≡ Status.SourceFault → Rose (S.faults study.old) (S.faults study.new) }
+    ensures table_fault { result.status ≡ Status.SinkFault Which.Table → Rose (T.faults table.old) (T.faults table.new) }
+    ensures out_fault { result.status ≡ Status.SinkFault Which.Out → Rose (U.faults out.old) (U.faults out.new) }
+
+    // What the sinks hold then.
+    ensures table_front { result.status ≡ Status.SinkFault Which.Table → IfSome (S.left study.old) (λ text.
+        BreaksTable text (T.held table.old) (T.held table.new)) }
+    ensures summary_front { result.status ≡ Status.SinkFault Which.Out → IfSome (S.left study.old) (λ text.
+        BreaksSummary text (T.held table.old) (T.held table.new) (U.held out.old) (U.held out.new)) }
+
+    // Where nothing fails, a study that is accepted ends as its evaluation does, or for want of memory.
+    ensures complete { IsRun (map string_bytes words.now) → ¬ Rose (S.faults study.old) (S.faults study.new) →
+        ¬ Rose (T.faults table.old) (T.faults table.new) → ¬ Rose (U.faults out.old) (U.faults out.new) →
+        IfSome (S.left study.old) (λ text. EndsAsEvaluated text result.status) }
+
+    // Every other status has its line on `out`, and the table isn't touched before the study is decided.
+    ensures says { IsTrue (has_line result.status) → Says (U.held out.old) (U.held out.new) (U.faults out.old) (U.faults out.new) (line result.status) }
+    ensures no_table { IsTrue (is_early result.status) → table.new ≡ table.old }
+
+    // Standard output is never begun.
+    ensures never_begun { OnlyGrows (U.held out.old) (U.held out.new) }
+
+    // The restart file and the benches aren't called.
+    ensures restart_kept { result.restart ≡ restart }
+    ensures benches_kept { result.benches ≡ benches }
+{
+    let status = run(alloc, words, study, table, out);
+    Ended {
+        status,
+        restart,
+        benches,
+    }
+}
+
+fn run<S: Source, T: Sink, U: Sink>(
+    alloc: Global,
+    words: &[String],
+    source: &mut S,
+    table: &mut T,
+    out: &mut U,
+) -> Status
+    ensures taken { IsTrue (is_decided result) → IfSome (S.left source.old) (λ _. S.left source.new ≡ Some []) }
+    ensures grows { OnlyGrows (U.held out.old) (U.held out.new) }
+    ensures ends { EndsSo (scene (map string_bytes words.now) (S.left source.old) (S.faults source.old) (S.faults source.new)
+        (T.held table.old) (T.held table.new) (T.faults table.old) (T.faults table.new)
+        (U.held out.old) (U.held out.new) (U.faults out.old) (U.faults out.new)) (table.new ≡ table.old) result }
+{
+    let study = match accept(alloc, words, source) {
+        Ok(study) => study,
+        Err(status) => return refuse(status, out),
+    };
+    match evaluate(alloc, &study) {
+        Ok(ran) => report(&study, &ran, table, out),
+        Err(_) => refuse(Status::NoMemory, out),
+    }
+}
+
+/// The study that the words and the source give, or why they give none.
+fn accept<S: Source>(alloc: Global, words: &[String], source: &mut S) -> Result<Study, Status>
+    ensures reason { IsReason (map string_bytes words.now) (S.left source.old) (S.faults source.old) (S.faults source.new) result }
+    ensures taken { OnOk result (IfSome (S.left source.old) (λ _. S.left source.new ≡ Some [])) }
+    ensures early { IfErr result (λ status. IsTrue (is_early status)) }
+    ensures sound { IfOk result IsSound }
+{
+    if let Some(at) = usage(words) {
+        return Err(Status::Usage { at });
+    }
+    match read_text(alloc, source) {
+        Ok(text) => accept_text(alloc, &text),
+        Err(TextFault::Failed) => Err(Status::SourceFault),
+        Err(TextFault::TooLong) => Err(refused(StudyKind::TooLong)),
+        Err(TextFault::NoMemory) => Err(Status::NoMemory),
+    }
+}
+
+/// The study of a text, or why it gives none.
+fn accept_text(alloc: Global, text: &[u8]) -> Result<Study, Status>
+    requires { length text.now ≤ 1048576 }
+    ensures reason { IsTextReason text.now result }
+    ensures early { IfErr result (λ status. IsTrue (is_early status)) }
+    ensures sound { IfOk result IsSound }
+{
+    match read_form(alloc, text) {
+        Ok(study) => Ok(study),
+        Err(FormFault::Refused(kind)) => Err(refused(kind)),
+        Err(FormFault::NoMemory) => Err(Status::NoMemory),
+    }
+}
+
+/// A study's text is refused, with an empty span at its beginning.
+fn refused(kind: StudyKind) -> Status
+    ensures { result ≡ refused_as kind }
+{
+    Status::StudyRefused(StudyFault {
+        kind,
+        span: Span { from: 0, to: 0 },
+    })
+}
+
+/// Writes the line of a status that comes before the rows, and answers it.
+fn refuse<U: Sink>(status: Status, out: &mut U) -> Status
+    ensures status { result ≡ status }
+    ensures says { Says (U.held out.old) (U.held out.new) (U.faults out.old) (U.faults out.new) (line status) }
+    ensures grows { OnlyGrows (U.held out.old) (U.held out.new) }
+{
+    say(&status, out);
+    status
+}
+
+/// Writes the table and then the summary.
+fn report<T: Sink, U: Sink>(study: &Study, ran: &Ran, table: &mut T, out: &mut U) -> Status
+    requires sound { IsSound study.now }
+    requires alone { Solo study.now rosenbrock_child [] ran.now.rows.items ran.now.ending }
+    ensures grows { OnlyGrows (U.held out.old) (U.held out.new) }
+    ensures reports { Reports study.now ran.now.rows.items ran.now.ending (T.held table.old) (T.held table.new) (T.faults table.old) (T.faults table.new)
+        (U.held out.old) (U.held out.new) (U.faults out.old) (U.faults out.new) result }
+{
+    match write_table(study, &ran.rows, table) {
+        Ok(()) => report_summary(study, ran, out),
+        Err(Failed) => refuse(Status::SinkFault(Which::Table), out),
+    }
+}
+
+/// Writes the summary.
+fn report_summary<U: Sink>(study: &Study, ran: &Ran, out: &mut U) -> Status
+    requires sound { IsSound study.now }
+    requires alone { Solo study.now rosenbrock_child [] ran.now.rows.items ran.now.ending }
+    ensures grows { OnlyGrows (U.held out.old) (U.held out.new) }
+    ensures summarizes { Summarizes study.now ran.now.rows.items ran.now.ending (U.held out.old) (U.held out.new) (U.faults out.old) (U.faults out.new) result }
+{
+    match write_summary(study, &ran.rows, &ran.ending, out) {
+        Ok(()) => status_of(&ran.ending),
+        Err(Failed) => Status::SinkFault(Which::Out),
+    }
+}
+
+/// The status of a study that was decided.
+fn status_of(ending: &Ending) -> Status
+    ensures { result ≡ status_of_lem ending.now }
+{
+    match ending {
+        Ending::Finished(_) => Status::Finished,
+        Ending::Aborted { .. } => Status::Aborted,
+    }
+}
