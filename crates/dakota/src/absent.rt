@@ -1,0 +1,102 @@
+// What isn't built yet: the restart file, and the places where children run.
+ghost use Rattle.std.specs.Prelude.{◌≡◌, length, IfOk, IsErr};
+ghost use Rattle.std.specs.Io.{ReadsAtMost};
+ghost use Rattle.dk_outside.specs.Benches.{IsAtMost};
+ghost use Rattle.dk_outside.specs.Causes.{HasCause};
+
+use crate::faults::fault;
+use dk_outside::{Bench, Call, Disk, Failed, Fetched};
+
+/// No disk: each call fails.
+#[derive(Drop)]
+pub struct NoDisk {
+    faults: u64,
+}
+
+impl NoDisk {
+    pub fn new() -> NoDisk
+        ensures { result.faults ≡ 0 }
+    {
+        NoDisk { faults: 0 }
+    }
+}
+
+impl Disk for NoDisk {
+    ghost faults = { λ disk. disk.faults };
+
+    fn length(&mut self) -> Result<u64, Failed>
+        ensures fails { IsErr result }
+        ensures cause { HasCause self.old.faults self.new.faults result }
+    {
+        Err(fault(&mut self.faults))
+    }
+
+    fn read_at(&mut self, _at: u64, buf: &mut [u8]) -> Result<usize, Failed>
+        ensures fails { IsErr result }
+        ensures bound { ReadsAtMost result buf.new }
+        ensures cause { HasCause self.old.faults self.new.faults result }
+    {
+        Err(fault(&mut self.faults))
+    }
+
+    fn write_at(&mut self, _at: u64, _bytes: &[u8]) -> Result<(), Failed>
+        ensures fails { IsErr result }
+        ensures cause { HasCause self.old.faults self.new.faults result }
+    {
+        Err(fault(&mut self.faults))
+    }
+
+    fn sync(&mut self) -> Result<(), Failed>
+        ensures fails { IsErr result }
+        ensures cause { HasCause self.old.faults self.new.faults result }
+    {
+        Err(fault(&mut self.faults))
+    }
+}
+
+/// No bench: each call fails.
+#[derive(Drop)]
+pub struct NoBench {
+    faults: u64,
+}
+
+impl NoBench {
+    pub fn new() -> NoBench
+        ensures { result.faults ≡ 0 }
+    {
+        NoBench { faults: 0 }
+    }
+}
+
+impl Bench for NoBench {
+    ghost faults = { λ bench. bench.faults };
+
+    fn clear(&mut self, _name: &str) -> Result<(), Failed>
+        ensures fails { IsErr result }
+        ensures cause { HasCause self.old.faults self.new.faults result }
+    {
+        Err(fault(&mut self.faults))
+    }
+
+    fn lay(&mut self, _name: &str, _bytes: &[u8]) -> Result<(), Failed>
+        ensures fails { IsErr result }
+        ensures cause { HasCause self.old.faults self.new.faults result }
+    {
+        Err(fault(&mut self.faults))
+    }
+
+    fn run(&mut self, _call: &Call<'_>) -> Result<(), Failed>
+        ensures fails { IsErr result }
+        ensures cause { HasCause self.old.faults self.new.faults result }
+    {
+        Err(fault(&mut self.faults))
+    }
+
+    fn fetch(&mut self, _name: &str, buf: &mut [u8]) -> Result<Fetched, Failed>
+        ensures fails { IsErr result }
+        ensures bound { IfOk result (λ fetched. IsAtMost fetched (length buf.new)) }
+        ensures cause { HasCause self.old.faults self.new.faults result }
+    {
+        Err(fault(&mut self.faults))
+    }
+}
