@@ -1,0 +1,7 @@
+pub mod Words
+pub mod Lists
+pub mod Meanings
+pub mod Grammar
+pub mod Contexts
+pub mod Judging
+pub mod Growths
