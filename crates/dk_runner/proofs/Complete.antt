@@ -1,5 +1,5 @@
 -- Where nothing fails, an accepted study ends as its evaluation does.
-use Rattle.std.proofs.Common.{◌≡◌, ◌⊎◌, inl, inr, ℕ, List, [], Option, Some, None, refl, ap, sym, subst, ◌∙◌}
+use Rattle.std.proofs.Common.{◌≡◌, inl, inr, ℕ, List, [], Option, Some, None, refl, ap, sym, subst, ◌∙◌}
 use Rattle.std.specs.Prelude.{IfSome, Ok, Err}
 use Rattle.dk_outside.specs.Causes.{Rose}
 use Rattle.dk_outside.specs.Sinks.{Held}
@@ -36,7 +36,7 @@ written_so text status a b c d w = λ study rows ending is.
 never : (text : List ℕ) (status : Status) (kind : _) → read_form text ≡ Err kind → EndsAsEvaluated text status
 never text status kind e = λ study rows ending is. absurd (let f : Err kind ≡ Ok study = sym e ∙ is.reads in cc)
 
-told : {P Q : List ℕ → Type 0} (left : Option (List ℕ)) → ((text : List ℕ) → P text → Q text) → IfSome left P → IfSome left Q
+pub told : {P Q : List ℕ → Type 0} (left : Option (List ℕ)) → ((text : List ℕ) → P text → Q text) → IfSome left P → IfSome left Q
 told None f h = tt
 told (Some text) f h = f text h
 

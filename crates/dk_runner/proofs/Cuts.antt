@@ -1,9 +1,9 @@
 -- The first piece of a text.
-use Rattle.std.proofs.Common.{◌≡◌, ℕ, zero, suc, ◌+◌, ◌<◌, ◌≤◌, Bool, true, false, List, [], ◌∷◌, length, take, drop, refl, ap, sym, ◌∙◌, arith, subst}
+use Rattle.std.proofs.Common.{◌≡◌, ℕ, suc, ◌+◌, ◌<◌, Bool, true, false, List, [], ◌∷◌, length, take, drop, refl, ap, sym, ◌∙◌, arith, subst}
 use Rattle.std.specs.Prelude.{not, ◌-◌}
 use Rattle.std.proofs.lemmas.List.{take_rest}
 use Rattle.std.specs.List.{prefix_len}
-use Rattle.dk_runner.specs.Pieces.{is_white, pieces, piece_with}
+use Rattle.dk_runner.specs.Pieces.{is_white, pieces}
 
 abbrev is_ink : ℕ → Bool
 is_ink byte = not (is_white byte)

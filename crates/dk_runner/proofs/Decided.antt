@@ -1,5 +1,5 @@
 -- What follows from how a run ended.
-use Rattle.std.proofs.Common.{◌≡◌, ℕ, ◌+◌, ◌<◌, ◌≤◌, List, [], length, Option, Some, None, refl, ap, sym, ◌∙◌, arith, lit<}
+use Rattle.std.proofs.Common.{◌≡◌, ℕ, ◌+◌, ◌<◌, ◌≤◌, List, [], length, Option, Some, None, refl, ap, sym, ◌∙◌, arith}
 use Rattle.std.specs.Prelude.{IfSome, Err, nat_lt, true, slice_get, get_or}
 use Rattle.std.proofs.lemmas.Option.{slice_get-get_or}
 use Rattle.dk_types.specs.Texts.{best_lines, best_lines_if, best_text}
@@ -7,30 +7,26 @@ use Rattle.std.proofs.lemmas.Grind.{common_steps}
 use Rattle.dk_types.specs.declared.study.Study.{Study}
 use Rattle.dk_types.specs.declared.study.Ending.{Ending}
 use Rattle.dk_types.specs.declared.study.Ending.TheVariants.{Finished, Aborted}
-use Rattle.dk_types.specs.declared.study.Method.{Method}
-use Rattle.dk_types.specs.declared.study.Method.TheVariants.{Vector}
-use Rattle.dk_types.specs.declared.study.Way.TheVariants.{Step}
 use Rattle.dk_types.specs.declared.rows.Row.{Row}
-use Rattle.dk_types.specs.Points.{size, size_by}
-use Rattle.dk_types.specs.Sound.{IsSound, IsSoundMethod}
+use Rattle.dk_types.specs.Points.{size}
+use Rattle.dk_runner.specs.Evaluated.{IsEvaluated}
 use Rattle.dk_types.specs.Solo.{Solo, rosenbrock_child}
-use Rattle.dk_types.specs.Laws.{AnswersPoints, EndsAt}
+use Rattle.dk_types.specs.Laws.{EndsAt}
 use Rattle.dk_types.proofs.Alone.{rows_are_points}
 use Rattle.dk_runner.specs.Form.{read_form, Refused}
+use Rattle.dk_runner.proofs.Repeats.{evaluated_step}
 use Rattle.dk_runner.specs.declared.status.StudyKind.TheVariants.{TooLong}
-
-few_points : (method : Method) → IsSoundMethod 2 method → size_by method ≤ 10001
-few_points (Vector steps (Step step)) h = omega (arith, h.0)
 
 at_most : (study : Study) (count : ℕ) (ending : Ending) → EndsAt study rosenbrock_child count ending → count ≤ size study
 at_most study count (Finished why) h = omega (arith, h)
 at_most study count (Aborted evaluation attempts) h = omega (arith, h.0)
 
 -- a study has no more rows than points, which are few
-pub few_rows : (study : Study) (rows : List Row) (ending : Ending) → IsSound study → Solo study rosenbrock_child [] rows ending → length rows ≤ 10001
-few_rows study rows ending sound alone =
+pub few_rows : (study : Study) (rows : List Row) (ending : Ending) → IsEvaluated study → Solo study rosenbrock_child [] rows ending → length rows ≤ 10001
+few_rows study rows ending evaluated alone =
     let a = at_most study (length rows) ending (rows_are_points study rosenbrock_child rows ending alone).ends in
-    let b = few_points study.method sound.method in omega arith
+    let b = (evaluated_step study.method evaluated.method).most in
+    omega arith
 
 pub too_long : (text : List ℕ) → 1048576 < length text → read_form text ≡ Err TooLong
 unfolding read_form

@@ -13,7 +13,7 @@ use Rattle.dk_types.specs.declared.study.Why.TheVariants.{Complete}
 use Rattle.dk_types.specs.declared.rows.Row.{Row}
 use Rattle.dk_types.specs.Points.{point, size}
 use Rattle.dk_types.specs.Solo.{Solo, finished, aborted, goes_on, Child, At, next}
-use Rattle.dk_types.specs.Sound.{AreFew}
+use Rattle.dk_runner.specs.Evaluated.{AreFew}
 use Rattle.dk_types.proofs.Once.{next_at, next_over}
 use Rattle.dk_runner.proofs.Bounds.{moved_units}
 use Rattle.dk_runner.proofs.Repeats.{steps_on}

@@ -1,6 +1,6 @@
 -- What a text of the form is read as.
-use Rattle.std.proofs.Common.{◌≡◌, ℕ, ◌≤◌, false, List, length, Option, Some, None, refl, ap, sym, ◌∙◌, arith, nat_lt}
-use Rattle.std.specs.Prelude.{Ok, Err, Result, option_and_then}
+use Rattle.std.proofs.Common.{◌≡◌, ℕ, ◌≤◌, false, List, length, Some, None, refl, ap, arith, nat_lt}
+use Rattle.std.specs.Prelude.{Ok, Err}
 use Rattle.std.proofs.lemmas.Grind.{common_steps}
 use Rattle.dk_types.specs.declared.study.Study.{Study}
 use Rattle.dk_runner.specs.Numbers.{numbers_of}

@@ -7,5 +7,6 @@ pub mod Evaluations
 pub mod FormReadings
 pub mod Parts
 pub mod Repeats
+pub mod Reported
 pub mod Steps
 pub mod Saying

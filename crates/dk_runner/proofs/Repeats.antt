@@ -21,8 +21,8 @@ use Rattle.dk_num.proofs.Scaling.{same_scaled}
 use Rattle.dk_num.proofs.Values.{decimal_value}
 use Rattle.dk_types.specs.declared.study.Study.{Study}
 use Rattle.dk_types.specs.declared.study.Method.{Method}
-use Rattle.dk_types.specs.declared.study.Method.TheVariants.{Vector}
-use Rattle.dk_types.specs.declared.study.Way.TheVariants.{Step}
+use Rattle.dk_types.specs.declared.study.Method.TheVariants as variant
+use Rattle.dk_types.specs.declared.study.Way.TheVariants.{Step, Final}
 use Rattle.dk_types.specs.declared.study.Ending.{Ending}
 use Rattle.dk_types.specs.declared.study.Ending.TheVariants.{Finished, Aborted}
 use Rattle.dk_types.specs.declared.rows.Row.{Row}
@@ -30,7 +30,7 @@ use Rattle.dk_types.specs.Best.{same_point, duplicates_behind, duplicates}
 use Rattle.dk_types.specs.Laws.{AnswersPoints, EndsAt}
 use Rattle.dk_types.specs.Points.{point, size, size_by, units_by}
 use Rattle.dk_types.specs.Solo.{Solo, Child, rosenbrock_child}
-use Rattle.dk_types.specs.Sound.{IsSound, IsSoundMethod, AreFew}
+use Rattle.dk_runner.specs.Evaluated.{IsEvaluated, IsEvaluatedMethod, AreFew}
 use Rattle.dk_types.proofs.Alone.{rows_are_points}
 use Rattle.dk_runner.proofs.Bounds.{moved_units}
 
@@ -166,25 +166,33 @@ moved_points e (a ∷ others) (s ∷ ss) i j unit long few_initial few_step few_
 
 -- the step of a vector study
 abbrev pub step_of : Method → List ℤ
-step_of (Vector steps (Step step)) = step
+step_of (variant.Vector steps (Step step)) = step
+step_of _ = []
 
 -- its number of steps
 abbrev pub steps_of : Method → ℕ
-steps_of (Vector steps way) = steps
+steps_of (variant.Vector steps way) = steps
+steps_of _ = 0
 
--- the units of a point, by the number of its steps
-pub units_are : (method : Method) (initial : List ℤ) (i : ℕ) → units_by method initial i ≡ steps_on i initial (step_of method)
-units_are (Vector steps (Step step)) initial i = refl
-
--- what is known of a sound study's step
+-- what is known of an evaluated study's method
 pub record HasStep (method : Method) : Type 0 where
+  pub is : method ≡ variant.Vector (steps_of method) (Step (step_of method))
   pub long : length (step_of method) ≡ 2
   pub few : AreFew (step_of method)
   pub most : size_by method ≤ 10001
 
--- a sound method has such a step
-pub sound_step : (method : Method) → IsSoundMethod 2 method → HasStep method
-sound_step (Vector steps (Step step)) is = record { long = is.1; few = is.2; most = (let l = is.0 in omega arith) }
+-- an evaluated method has such a step
+pub evaluated_step : (method : Method) → IsEvaluatedMethod 2 method → HasStep method
+evaluated_step (variant.Vector steps (Step step)) h = record { is = refl; long = h.1; few = h.2; most = (let l = h.0 in omega arith) }
+evaluated_step (variant.Vector steps (Final final)) h = absurd h
+evaluated_step (variant.List points) h = absurd h
+evaluated_step (variant.Centered step counts) h = absurd h
+evaluated_step (variant.Multidim partitions) h = absurd h
+evaluated_step (variant.Compass delta threshold iterations evaluations) h = absurd h
+
+-- the units of a point, by the number of its steps
+pub units_are : (method : Method) (initial : List ℤ) (i : ℕ) → HasStep method → units_by method initial i ≡ steps_on i initial (step_of method)
+units_are method initial i step = ap (λ m. units_by m initial i) step.is
 
 -- there are no more rows than points
 rows_within : (study : Study) (child : Child) (count : ℕ) (ending : Ending) → EndsAt study child count ending → count ≤ size study
@@ -192,21 +200,21 @@ rows_within study child count (Finished why) e = omega arith
 rows_within study child count (Aborted evaluation attempts) e = let l = e.0 in omega arith
 
 -- a point, by the number of its steps, as decimals
-pub point_is : (study : Study) (i : ℕ) → point study i ≡ map (in_units study.unit.exponent) (steps_on i study.variables.initial (step_of study.method))
-point_is study i = ap (map (in_units study.unit.exponent)) (units_are study.method study.variables.initial i)
+pub point_is : (study : Study) (i : ℕ) → HasStep study.method → point study i ≡ map (in_units study.unit.exponent) (steps_on i study.variables.initial (step_of study.method))
+point_is study i step = ap (map (in_units study.unit.exponent)) (units_are study.method study.variables.initial i step)
 
 -- where the step moves there is no duplicate
-pub moving_rows : (study : Study) (rows : List Row) (ending : Ending) → IsSound study → Solo study rosenbrock_child [] rows ending →
+pub moving_rows : (study : Study) (rows : List Row) (ending : Ending) → IsEvaluated study → Solo study rosenbrock_child [] rows ending →
     list_any is_move (step_of study.method) ≡ true → duplicates rows ≡ 0
-moving_rows study rows ending sound s moved = none_again [] rows (λ i j x y h a b.
-    ap (λ p. same_point p y.point) (answers.points i x a ∙ point_is study i) ∙ ap (λ p. same_point (map (in_units study.unit.exponent) (steps_on i study.variables.initial (step_of study.method))) p) (answers.points j y b ∙ point_is study j)
-    ∙ moved_points study.unit.exponent study.variables.initial (step_of study.method) i j sound.unit (sound.initial ∙ sym step.long) sound.initial_few step.few (few i x a) (few j y b) (let ne : i ≢ j = omega arith in ne) moved)
+moving_rows study rows ending evaluated s moved = none_again [] rows (λ i j x y h a b.
+    ap (λ p. same_point p y.point) (answers.points i x a ∙ point_is study i step) ∙ ap (λ p. same_point (map (in_units study.unit.exponent) (steps_on i study.variables.initial (step_of study.method))) p) (answers.points j y b ∙ point_is study j step)
+    ∙ moved_points study.unit.exponent study.variables.initial (step_of study.method) i j evaluated.unit (evaluated.initial ∙ sym step.long) evaluated.initial_few step.few (few i x a) (few j y b) (let ne : i ≢ j = omega arith in ne) moved)
   where
     answers : AnswersPoints study rosenbrock_child rows ending
     answers = rows_are_points study rosenbrock_child rows ending s
 
     step : HasStep study.method
-    step = sound_step study.method sound.method
+    step = evaluated_step study.method evaluated.method
 
     few : (i : ℕ) (x : Row) → slice_get rows i ≡ Some x → i ≤ 10000
     few i x a =
@@ -216,32 +224,30 @@ moving_rows study rows ending sound s moved = none_again [] rows (λ i j x y h a
         omega arith
 
 -- where the step is zero, each row behind the first is one
-pub still_rows : (study : Study) (rows : List Row) (ending : Ending) → Solo study rosenbrock_child [] rows ending →
+pub still_rows : (study : Study) (rows : List Row) (ending : Ending) → HasStep study.method → Solo study rosenbrock_child [] rows ending →
     list_any is_move (step_of study.method) ≡ false → duplicates rows ≡ length rows - 1
-still_rows study rows ending s still = all_but_first rows (λ i j x y a b.
+still_rows study rows ending step s still = all_but_first rows (λ i j x y a b.
     ap (λ p. same_point p y.point) (answers.points i x a ∙ alike i j ∙ sym (answers.points j y b)) ∙ same_itself y.point)
   where
     answers : AnswersPoints study rosenbrock_child rows ending
     answers = rows_are_points study rosenbrock_child rows ending s
 
     alike : (i j : ℕ) → point study i ≡ point study j
-    alike i j = point_is study i ∙ ap (map (in_units study.unit.exponent)) (still_units study.variables.initial (step_of study.method) i j still) ∙ sym (point_is study j)
-
--- a method is a number of steps and a step
-pub method_is : (method : Method) → method ≡ Vector (steps_of method) (Step (step_of method))
-method_is (Vector steps (Step step)) = refl
+    alike i j = point_is study i step ∙ ap (map (in_units study.unit.exponent)) (still_units study.variables.initial (step_of study.method) i j still) ∙ sym (point_is study j step)
 
 -- no row is a duplicate where a test says that the step moves
-pub none_where_moving : (study : Study) (rows : List Row) (ending : Ending) (moves : Bool) → IsSound study → Solo study rosenbrock_child [] rows ending →
-    ((steps : ℕ) (step : List ℤ) → study.method ≡ Vector steps (Step step) → moves ≡ list_any is_move step) → moves ≡ true → 0 ≡ duplicates rows
-none_where_moving study rows ending moves sound s is t =
-    sym (moving_rows study rows ending sound s (sym (is (steps_of study.method) (step_of study.method) (method_is study.method)) ∙ t))
+pub none_where_moving : (study : Study) (rows : List Row) (ending : Ending) (moves : Bool) → IsEvaluated study → Solo study rosenbrock_child [] rows ending →
+    ((steps : ℕ) (step : List ℤ) → study.method ≡ variant.Vector steps (Step step) → moves ≡ list_any is_move step) → moves ≡ true → 0 ≡ duplicates rows
+none_where_moving study rows ending moves evaluated s is t =
+    let method_is = (evaluated_step study.method evaluated.method).is in
+    sym (moving_rows study rows ending evaluated s (sym (is (steps_of study.method) (step_of study.method) method_is) ∙ t))
 
 -- where it says that the step doesn't move, all are but the first
-pub but_first_where_still : (study : Study) (rows : List Row) (ending : Ending) (moves : Bool) → Solo study rosenbrock_child [] rows ending →
-    ((steps : ℕ) (step : List ℤ) → study.method ≡ Vector steps (Step step) → moves ≡ list_any is_move step) → moves ≡ false → length rows - 1 ≡ duplicates rows
-but_first_where_still study rows ending moves s is t =
-    sym (still_rows study rows ending s (sym (is (steps_of study.method) (step_of study.method) (method_is study.method)) ∙ t))
+pub but_first_where_still : (study : Study) (rows : List Row) (ending : Ending) (moves : Bool) → IsEvaluated study → Solo study rosenbrock_child [] rows ending →
+    ((steps : ℕ) (step : List ℤ) → study.method ≡ variant.Vector steps (Step step) → moves ≡ list_any is_move step) → moves ≡ false → length rows - 1 ≡ duplicates rows
+but_first_where_still study rows ending moves evaluated s is t =
+    let step : HasStep study.method = evaluated_step study.method evaluated.method in
+    sym (still_rows study rows ending step s (sym (is (steps_of study.method) (step_of study.method) step.is) ∙ t))
 
 -- no row is one where there is none
 pub none_of_none : (rows : List Row) → length rows ≡ 0 → 0 ≡ duplicates rows

@@ -1,8 +1,7 @@
 -- What a finished buffer has said.
 use Rattle.std.proofs.Common.{ℕ, List, [], inl, inr, Option, Some, None}
 use Rattle.std.specs.Prelude.{Result, Ok, Err}
-use Rattle.dk_outside.specs.Causes.{HasCause}
-use Rattle.dk_outside.specs.Sinks.{Held, Grows, GrowsByFront, WritesText}
+use Rattle.dk_outside.specs.Sinks.{Held, Grows, GrowsByFront}
 use Rattle.dk_outside.specs.Flows.{Pending, Flow, flow, CarriesOn, IsReady, Empties, Arrives}
 use Rattle.dk_outside.specs.declared.Failed.{Failed}
 use Rattle.dk_runner.specs.Headline.{Says, OnlyGrows}

@@ -1,5 +1,5 @@
 -- How a run ends, status by status. The clauses of the top call follow from it.
-use Rattle.std.specs.Prelude.{◌≡◌, ℕ, List, [], Option, Result, Ok, Err, IfSome}
+use Rattle.std.specs.Prelude.{◌≡◌, ℕ, List, Option, Result, Ok, Err, IfSome}
 use Rattle.dk_outside.specs.Causes.{Rose}
 use Rattle.dk_outside.specs.Sinks.{Held, Grows, GrowsByFront}
 use Rattle.dk_types.specs.declared.study.Study.{Study}

@@ -1,10 +1,12 @@
 -- The one form of a study that is read, and the study of a text.
-use Rattle.std.specs.Prelude.{◌≡◌, ℕ, ◌+◌, List, [], ◌∷◌, length, codes, ℤ, true, Option, Some, None, option_map, option_and_then, Result, Ok, Err, nat_lt, if◌then◌else◌}
+use Rattle.std.specs.Prelude.{◌≡◌, ℕ, ◌+◌, List, [], ◌∷◌, length, codes, ℤ, true, false, Option, Some, None, option_map, option_and_then, Result, Ok, Err, nat_lt, if◌then◌else◌}
 use Rattle.dk_num.specs.Units.{unit_exponent, units_of}
 use Rattle.dk_types.specs.declared.study.Study.{Study}
 use Rattle.dk_types.specs.declared.study.Method.TheVariants.{Vector}
 use Rattle.dk_types.specs.declared.study.Way.TheVariants.{Step}
+use Rattle.dk_types.specs.declared.study.Interface.{Interface}
 use Rattle.dk_types.specs.declared.study.Driver.TheVariants.{Direct}
+use Rattle.dk_types.specs.declared.study.ParamForm.TheVariants.{Standard}
 use Rattle.dk_types.specs.declared.study.FailRule.TheVariants.{Abort}
 use Rattle.dk_runner.specs.Pieces.{pieces, filled}
 use Rattle.dk_runner.specs.Numbers.{numbers_of, the_decimals}
@@ -33,14 +35,27 @@ whole_of e n =
     record { step1 = step1; step2 = step2; initial1 = initial1; initial2 = initial2 })
     (units_of e n.initial2)) (units_of e n.initial1)) (units_of e n.step2)) (units_of e n.step1)
 
+-- its interface: the program's own function, and the names that files have where none are given
+abbrev pub direct : Interface
+direct = record {
+  driver = Direct;
+  parameters = codes "params.in";
+  results = codes "results.out";
+  form = Standard;
+  tag = false;
+  save = false;
+  concurrency = 1;
+  rule = Abort;
+}
+
 -- the study of the form, with its numbers in units
 abbrev pub study_with : (steps : ℕ) (exponent : ℤ) → Whole → Study
 study_with steps exponent whole = record {
   unit = record { exponent = exponent };
-  variables = record { labels = codes "x1" ∷ (codes "x2" ∷ []); initial = whole.initial1 ∷ (whole.initial2 ∷ []) };
+  variables = record { labels = codes "x1" ∷ (codes "x2" ∷ []); initial = whole.initial1 ∷ (whole.initial2 ∷ []); lower = None; upper = None };
   responses = record { labels = codes "obj_fn" ∷ []; objectives = true };
   method = Vector steps (Step (whole.step1 ∷ (whole.step2 ∷ [])));
-  interface = record { driver = Direct; rule = Abort };
+  interface = direct;
   table = Some (codes "t.dat");
   limit = steps + 1;
 }

@@ -1,5 +1,5 @@
 -- What a run has written, and why it ended so.
-use Rattle.std.specs.Prelude.{◌≡◌, ◌⊎◌, ℕ, List, [], ◌∷◌, ◌++◌, Option, Some, None, IfSome, Result, MatchResult}
+use Rattle.std.specs.Prelude.{◌≡◌, ◌⊎◌, ℕ, List, [], ◌++◌, Option, Some, None, IfSome, Result, MatchResult}
 use Rattle.dk_outside.specs.Causes.{Rose}
 use Rattle.dk_outside.specs.Sinks.{Held, Keeps, Grows, GrowsByFront, begun_with, with_more}
 use Rattle.dk_types.specs.declared.study.Study.{Study}

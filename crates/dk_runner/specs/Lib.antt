@@ -1,6 +1,7 @@
 pub mod Words
 pub mod Pieces
 pub mod Numbers
+pub mod Evaluated
 pub mod Form
 pub mod FormAnswers
 pub mod Lines

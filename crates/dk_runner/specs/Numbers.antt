@@ -1,5 +1,5 @@
 -- The five numbers of a study of the form.
-use Rattle.std.specs.Prelude.{ℕ, Bool, ◌&&◌, List, [], ◌∷◌, length, Option, Some, None, option_map, option_and_then, Result, Ok, Err, nat_lt, nat_le, if◌then◌else◌}
+use Rattle.std.specs.Prelude.{ℕ, ◌&&◌, List, [], ◌∷◌, length, Option, Some, None, option_map, option_and_then, Ok, Err, nat_lt, nat_le, if◌then◌else◌}
 use Rattle.std.specs.List.{list_all}
 use Rattle.dk_num.specs.Decimal.{Decimal}
 use Rattle.dk_num.specs.Numbers.{is_digit, numeral_value, read_of}

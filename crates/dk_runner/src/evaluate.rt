@@ -3,7 +3,7 @@ ghost use Rattle.std.specs.Prelude.{◌≡◌, ℕ, ◌+◌, ◌<◌, ◌≤◌,
 ghost use Rattle.dk_num.specs.Units.{in_units, IsUnitExponent};
 ghost use Rattle.dk_types.specs.Points.{size, point};
 ghost use Rattle.dk_types.specs.Solo.{Solo, rosenbrock_child};
-ghost use Rattle.dk_types.specs.Sound.{IsSound, AreFew};
+ghost use Rattle.dk_runner.specs.Evaluated.{IsEvaluated, IsEvaluatedMethod, AreFew};
 ghost use Rattle.dk_types.specs.declared.study.Method.TheVariants.{Vector};
 ghost use Rattle.dk_types.specs.declared.study.Way.TheVariants.{Step};
 
@@ -20,7 +20,7 @@ pub struct Ran {
 
 /// Evaluates the points of a study, one after another, up to the first that has no value.
 pub fn evaluate(alloc: Global, study: &Study) -> Result<Ran, AllocError>
-    requires { IsSound study.now }
+    requires { IsEvaluated study.now }
     ensures { IfOk result (λ ran. Solo study.now rosenbrock_child [] ran.rows.items ran.ending) }
 {
     let count = point_count(study);
@@ -46,16 +46,21 @@ pub fn evaluate(alloc: Global, study: &Study) -> Result<Ran, AllocError>
 
 /// How many points the study has.
 fn point_count(study: &Study) -> u32
-    requires { IsSound study.now }
+    requires { IsEvaluated study.now }
     ensures { result ≡ size study.now }
 {
-    let Method::Vector { steps, way: _ } = &study.method;
-    *steps + 1
+    match &study.method {
+        Method::Vector {
+            steps,
+            way: Way::Step(_),
+        } => *steps + 1,
+        _ => unreachable!(),
+    }
 }
 
 /// The point of this number, counted from 0.
 fn point_at(alloc: Global, study: &Study, number: u32) -> Result<Decs, AllocError>
-    requires sound { IsSound study.now }
+    requires evaluated { IsEvaluated study.now }
     requires within { number < size study.now }
     ensures { IfOk result (λ p. p ≡ point study.now number) }
 {
@@ -66,14 +71,17 @@ fn point_at(alloc: Global, study: &Study, number: u32) -> Result<Decs, AllocErro
 }
 
 /// The step of a vector study.
-fn step_of(method: &Method) -> &[i128]
+pub fn step_of(method: &Method) -> &[i128]
+    requires { IsEvaluatedMethod 2 method.now }
     ensures { (steps : ℕ) (step : List ℤ) → method.now ≡ Vector steps (Step step) → result.now ≡ step }
 {
-    let Method::Vector {
-        steps: _,
-        way: Way::Step(step),
-    } = method;
-    step.items()
+    match method {
+        Method::Vector {
+            steps: _,
+            way: Way::Step(step),
+        } => step.items(),
+        _ => unreachable!(),
+    }
 }
 
 /// The decimals so many steps from the start.

@@ -1,9 +1,9 @@
 // The study of a text of the one form that is read.
 ghost use Rattle.std.specs.Prelude.{◌≡◌, ◌≤◌, ◌<◌, ◌^◌, length, unsigned_abs, IfOk, IfSome};
 ghost use Rattle.dk_num.specs.Units.{AreModerate, AreWithin};
-ghost use Rattle.dk_types.specs.Sound.{IsSound};
 ghost use Rattle.dk_runner.specs.Numbers.{the_decimals};
-ghost use Rattle.dk_runner.specs.Form.{study_with as study_with_lem, study_of as study_of_lem, numbers, whole_of};
+ghost use Rattle.dk_runner.specs.Form.{study_with as study_with_lem, study_of as study_of_lem, direct as direct_lem, numbers, whole_of};
+ghost use Rattle.dk_runner.specs.Evaluated.{IsEvaluated};
 ghost use Rattle.dk_runner.specs.FormAnswers.{IsAnswer};
 
 use crate::StudyKind;
@@ -11,7 +11,8 @@ use crate::numbers::{Numbers, read_numbers};
 use crate::pieces::fill;
 use dk_num::{Unit, to_units, unit_of};
 use dk_types::{
-    Driver, FailRule, Interface, Labels, Method, Responses, Study, Text, Units, Variables, Way,
+    Driver, FailRule, Interface, Labels, Method, ParamForm, Responses, Study, Text, Units,
+    Variables, Way,
 };
 use std::alloc::{AllocError, Global};
 
@@ -43,7 +44,7 @@ impl From<AllocError> for FormFault {
 pub fn read_form(alloc: Global, text: &[u8]) -> Result<Study, FormFault>
     requires { length text.now ≤ 1048576 }
     ensures answer { IsAnswer text.now result }
-    ensures sound { IfOk result IsSound }
+    ensures evaluated { IfOk result IsEvaluated }
 {
     let Some(numbers) = numbers_of_text(alloc, text)? else {
         return Err(FormFault::Refused(StudyKind::Unsupported));
@@ -71,7 +72,7 @@ fn study_of(alloc: Global, given: &Numbers) -> Result<Option<Study>, AllocError>
     requires moderate { AreModerate (the_decimals given.now) }
     requires few { given.now.steps ≤ 10000 }
     ensures study { IfOk result (λ study. study ≡ study_of_lem given.now) }
-    ensures sound { IfOk result (λ study. IfSome study IsSound) }
+    ensures evaluated { IfOk result (λ study. IfSome study IsEvaluated) }
 {
     let unit = unit_of(&[given.step1, given.step2, given.initial1, given.initial2]);
     match whole_numbers(given, unit) {
@@ -114,6 +115,8 @@ fn study_with(alloc: Global, steps: u32, unit: Unit, whole: &Whole) -> Result<St
         variables: Variables {
             labels: Labels::of(alloc, &variables)?,
             initial: Units::of(alloc, &[whole.initial1, whole.initial2])?,
+            lower: None,
+            upper: None,
         },
         responses: Responses {
             labels: Labels::of(alloc, &responses)?,
@@ -123,11 +126,24 @@ fn study_with(alloc: Global, steps: u32, unit: Unit, whole: &Whole) -> Result<St
             steps,
             way: Way::Step(Units::of(alloc, &[whole.step1, whole.step2])?),
         },
-        interface: Interface {
-            driver: Driver::Direct,
-            rule: FailRule::Abort,
-        },
+        interface: direct(alloc)?,
         table: Some(Text::of(alloc, "t.dat")?),
         limit: steps + 1,
+    })
+}
+
+/// The interface of the form: the program's own function, and the names that files have where none are given.
+fn direct(alloc: Global) -> Result<Interface, AllocError>
+    ensures { IfOk result (λ interface. interface ≡ direct_lem) }
+{
+    Ok(Interface {
+        driver: Driver::Direct,
+        parameters: Text::of(alloc, "params.in")?,
+        results: Text::of(alloc, "results.out")?,
+        form: ParamForm::Standard,
+        tag: false,
+        save: false,
+        concurrency: 1,
+        rule: FailRule::Abort,
     })
 }

@@ -2,8 +2,8 @@
 ghost use Rattle.std.specs.Prelude.{◌≡◌, ℕ, ◌≤◌, [], length, map, IfErr, IfOk, IfSome, IsTrue, OnOk, Some, string_bytes};
 ghost use Rattle.dk_outside.specs.Causes.{Rose};
 ghost use Rattle.dk_types.specs.Solo.{Solo, rosenbrock_child};
-ghost use Rattle.dk_types.specs.Sound.{IsSound};
 ghost use Rattle.dk_runner.specs.Words.{IsRun, Misused};
+ghost use Rattle.dk_runner.specs.Evaluated.{IsEvaluated};
 ghost use Rattle.dk_runner.specs.Form.{Refused};
 ghost use Rattle.dk_runner.specs.Lines.{line, status_of as status_of_lem, is_decided, is_early, has_line};
 ghost use Rattle.dk_runner.specs.Headline.{Written, BreaksTable, BreaksSummary, Says, OnlyGrows, EndsAsEvaluated, TellsRefusal};
@@ -122,7 +122,7 @@ fn accept<S: Source>(alloc: Global, words: &[String], source: &mut S) -> Result<
     ensures reason { IsReason (map string_bytes words.now) (S.left source.old) (S.faults source.old) (S.faults source.new) result }
     ensures taken { OnOk result (IfSome (S.left source.old) (λ _. S.left source.new ≡ Some [])) }
     ensures early { IfErr result (λ status. IsTrue (is_early status)) }
-    ensures sound { IfOk result IsSound }
+    ensures evaluated { IfOk result IsEvaluated }
 {
     if let Some(at) = usage(words) {
         return Err(Status::Usage { at });
@@ -140,7 +140,7 @@ fn accept_text(alloc: Global, text: &[u8]) -> Result<Study, Status>
     requires { length text.now ≤ 1048576 }
     ensures reason { IsTextReason text.now result }
     ensures early { IfErr result (λ status. IsTrue (is_early status)) }
-    ensures sound { IfOk result IsSound }
+    ensures evaluated { IfOk result IsEvaluated }
 {
     match read_form(alloc, text) {
         Ok(study) => Ok(study),
@@ -171,7 +171,7 @@ fn refuse<U: Sink>(status: Status, out: &mut U) -> Status
 
 /// Writes the table and then the summary.
 fn report<T: Sink, U: Sink>(study: &Study, ran: &Ran, table: &mut T, out: &mut U) -> Status
-    requires sound { IsSound study.now }
+    requires evaluated { IsEvaluated study.now }
     requires alone { Solo study.now rosenbrock_child [] ran.now.rows.items ran.now.ending }
     ensures grows { OnlyGrows (U.held out.old) (U.held out.new) }
     ensures reports { Reports study.now ran.now.rows.items ran.now.ending (T.held table.old) (T.held table.new) (T.faults table.old) (T.faults table.new)
@@ -185,7 +185,7 @@ fn report<T: Sink, U: Sink>(study: &Study, ran: &Ran, table: &mut T, out: &mut U
 
 /// Writes the summary.
 fn report_summary<U: Sink>(study: &Study, ran: &Ran, out: &mut U) -> Status
-    requires sound { IsSound study.now }
+    requires evaluated { IsEvaluated study.now }
     requires alone { Solo study.now rosenbrock_child [] ran.now.rows.items ran.now.ending }
     ensures grows { OnlyGrows (U.held out.old) (U.held out.new) }
     ensures summarizes { Summarizes study.now ran.now.rows.items ran.now.ending (U.held out.old) (U.held out.new) (U.faults out.old) (U.faults out.new) result }

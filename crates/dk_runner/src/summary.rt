@@ -4,11 +4,11 @@ ghost use Rattle.dk_outside.specs.Causes.{HasCause};
 ghost use Rattle.dk_outside.specs.Flows.{flow, CarriesOn};
 ghost use Rattle.dk_outside.specs.Sinks.{WritesText};
 ghost use Rattle.dk_types.specs.Solo.{Solo, rosenbrock_child};
-ghost use Rattle.dk_types.specs.Sound.{IsSound};
 ghost use Rattle.dk_types.specs.Best.{best};
-ghost use Rattle.dk_types.specs.Texts.{summary, ending_line, counts_line, best_lines, best_text, setting, settings_after};
+ghost use Rattle.dk_types.specs.Texts.{summary, why_text, ending_line, counts_line, best_lines, best_text, setting, settings_after};
+ghost use Rattle.dk_runner.specs.Evaluated.{IsEvaluated};
 ghost use Rattle.dk_types.specs.declared.study.Ending.{Ending};
-ghost use Rattle.dk_types.specs.declared.study.Ending.TheVariants.{Aborted};
+ghost use Rattle.dk_types.specs.declared.study.Ending.TheVariants.{Finished, Aborted};
 
 use crate::best::{best_row, duplicate_count};
 use crate::table::put_decimal;
@@ -23,7 +23,7 @@ pub fn write_summary<U: Sink>(
     ending: &Ending,
     out: &mut U,
 ) -> Result<(), Failed>
-    requires sound { IsSound study.now }
+    requires evaluated { IsEvaluated study.now }
     requires alone { Solo study.now rosenbrock_child [] rows.now ending.now }
     ensures bytes { WritesText (U.held out.old) (U.held out.new) result (summary study.now rows.now ending.now) }
     ensures cause { HasCause (U.faults out.old) (U.faults out.new) result }
@@ -39,11 +39,30 @@ fn put_ending<U: Sink>(ending: &Ending, buffer: &mut Buffer, out: &mut U)
     ensures { CarriesOn (flow (U.held out.old) (U.faults out.old) buffer.old) (flow (U.held out.new) (U.faults out.new) buffer.new) (ending_line ending.now) }
 {
     match ending {
-        Ending::Finished(Why::Complete) => buffer.put(b"<<<<< Study finished: complete\n", out),
+        Ending::Finished(why) => put_finished(*why, buffer, out),
         Ending::Aborted {
             evaluation,
             attempts,
         } => put_aborted(*evaluation, *attempts, buffer, out),
+    }
+}
+
+fn put_finished<U: Sink>(why: Why, buffer: &mut Buffer, out: &mut U)
+    ensures { CarriesOn (flow (U.held out.old) (U.faults out.old) buffer.old) (flow (U.held out.new) (U.faults out.new) buffer.new) (ending_line (Finished why)) }
+{
+    buffer.put(b"<<<<< Study finished: ", out);
+    buffer.put(why_name(why), out);
+    buffer.put(b"\n", out);
+}
+
+fn why_name(why: Why) -> &'static [u8]
+    ensures { result.now ≡ why_text why }
+{
+    match why {
+        Why::Complete => b"complete",
+        Why::Threshold => b"threshold_delta",
+        Why::Iterations => b"max_iterations",
+        Why::Evaluations => b"max_function_evaluations",
     }
 }
 

@@ -1,4 +1,6 @@
 pub mod Points
+pub mod Limits
+pub mod Labels
 pub mod Sound
 pub mod Solo
 pub mod Laws

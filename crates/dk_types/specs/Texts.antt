@@ -6,7 +6,7 @@ use Rattle.dk_types.specs.declared.study.Study.{Study}
 use Rattle.dk_types.specs.declared.study.Ending.{Ending}
 use Rattle.dk_types.specs.declared.study.Ending.TheVariants.{Finished, Aborted}
 use Rattle.dk_types.specs.declared.study.Why.{Why}
-use Rattle.dk_types.specs.declared.study.Why.TheVariants.{Complete}
+use Rattle.dk_types.specs.declared.study.Why.TheVariants.{Complete, Threshold, Iterations, Evaluations}
 use Rattle.dk_types.specs.declared.rows.Row.{Row}
 use Rattle.dk_types.specs.Best.{best, duplicates}
 
@@ -36,6 +36,9 @@ table study rows = header study ++ row_lines 1 rows
 
 abbrev pub why_text : Why → List ℕ
 why_text Complete = codes "complete"
+why_text Threshold = codes "threshold_delta"
+why_text Iterations = codes "max_iterations"
+why_text Evaluations = codes "max_function_evaluations"
 
 abbrev pub ending_line : Ending → List ℕ
 ending_line (Finished why) = codes "<<<<< Study finished: " ++ (why_text why ++ codes "\n")

@@ -8,9 +8,10 @@ pub mod study;
 #[cfg(test)]
 mod tests;
 
-pub use dk_outside::Text;
-pub use lists::{Decs, Labels, Units};
+pub use dk_outside::{Text, Words};
+pub use lists::{Counts, Decs, Labels, Units};
 pub use rows::Row;
 pub use study::{
-    Driver, Ending, FailRule, Interface, Method, Responses, Study, Variables, Way, Why,
+    Driver, Ending, FailRule, Interface, Method, ParamForm, Responses, Shape, Study, Variables,
+    Way, Why,
 };

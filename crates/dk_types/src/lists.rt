@@ -31,6 +31,13 @@ impl Labels {
         })
     }
 
+    /// The labels of a vector, which takes no memory.
+    pub fn of_vec(items: Vec<Text>) -> Labels
+        ensures { result ≡ items.items }
+    {
+        Labels { items }
+    }
+
     pub fn items(&self) -> &[Text]
         ensures { result.now ≡ self.now }
     {
@@ -69,6 +76,13 @@ impl Units {
         })
     }
 
+    /// The numbers of a vector, which takes no memory.
+    pub fn of_vec(items: Vec<i128>) -> Units
+        ensures { result ≡ items.items }
+    {
+        Units { items }
+    }
+
     pub fn items(&self) -> &[i128]
         ensures { result.now ≡ self.now }
     {
@@ -80,6 +94,51 @@ impl Units {
         ensures { IfOk result (λ u. u ≡ self.now) }
     {
         Units::of(alloc, self.items())
+    }
+}
+
+/// Whole numbers that count, one a variable.
+#[derive(Drop)]
+pub struct Counts {
+    items: Vec<u32>,
+}
+
+impl Model for Counts {
+    ghost use Rattle.std.specs.Prelude.{List, ℕ};
+
+    ghost Value = { List ℕ };
+
+    ghost view = { λ c. c.items.items };
+}
+
+impl Counts {
+    /// The same numbers, owned.
+    pub fn of(alloc: Global, items: &[u32]) -> Result<Counts, AllocError>
+        ensures { IfOk result (λ c. c ≡ items.now) }
+    {
+        Ok(Counts {
+            items: Vec::from_slice(alloc, items)?,
+        })
+    }
+
+    /// The numbers of a vector, which takes no memory.
+    pub fn of_vec(items: Vec<u32>) -> Counts
+        ensures { result ≡ items.items }
+    {
+        Counts { items }
+    }
+
+    pub fn items(&self) -> &[u32]
+        ensures { result.now ≡ self.now }
+    {
+        &self.items
+    }
+
+    /// Equal numbers.
+    pub fn copy(&self, alloc: Global) -> Result<Counts, AllocError>
+        ensures { IfOk result (λ c. c ≡ self.now) }
+    {
+        Counts::of(alloc, self.items())
     }
 }
 

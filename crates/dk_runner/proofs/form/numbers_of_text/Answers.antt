@@ -1,4 +1,4 @@
-use Rattle.std.proofs.Common.{◌≡◌, List, ℕ, ap, sym, ◌∙◌, Some, None, Bor}
+use Rattle.std.proofs.Common.{List, ℕ, ap, sym, ◌∙◌, Bor}
 use Rattle.std.specs.Prelude.{map}
 use Rattle.dk_runner.specs.Numbers.{numbers_of}
 use Rattle.dk_runner.specs.Form.{form}

@@ -1,4 +1,4 @@
-use Rattle.std.proofs.Common.{arith, ◌≡◌, ◌<◌, ◌-◌, length, drop, take, ◌∙◌, refl}
+use Rattle.std.proofs.Common.{arith, ◌≡◌, ◌<◌, ◌-◌, length, drop, take, refl}
 use Rattle.std.proofs.lemmas.Grind.{common_steps}
 use Rattle.dk_runner.proofs.Cuts.{rest_is, none_left, cuts}
 use Rattle.dk_runner.proofs.pieces.next_piece.Goals as goal

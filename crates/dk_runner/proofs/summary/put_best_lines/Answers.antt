@@ -1,6 +1,5 @@
-use Rattle.std.proofs.Common.{ap, ◌≡◌, ◌∙◌}
 use Rattle.dk_outside.proofs.Carrying.{then, same_bytes}
-use Rattle.dk_types.specs.Texts.{settings, settings_after}
+use Rattle.dk_types.specs.Texts.{settings}
 use Rattle.dk_runner.proofs.Parts.{both}
 use Rattle.dk_runner.proofs.summary.put_best_lines.Goals as goal
 

@@ -1,4 +1,4 @@
-use Rattle.std.proofs.Common.{◌≡◌, ◌+◌, drop, refl, ap, arith, ◌∙◌}
+use Rattle.std.proofs.Common.{◌≡◌, ◌+◌, drop, refl, ap, arith}
 use Rattle.std.proofs.lemmas.List.{at_drop_all}
 use Rattle.dk_outside.proofs.Carrying.{same_bytes}
 use Rattle.dk_types.specs.Texts.{row_line, row_lines}
