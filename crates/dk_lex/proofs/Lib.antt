@@ -6,3 +6,4 @@ pub mod Existence
 pub mod SamePieces
 pub mod Uniqueness
 pub mod Spans
+pub mod Strings

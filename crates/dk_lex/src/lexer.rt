@@ -2,7 +2,7 @@
 ghost use Rattle.std.specs.Prelude.{◌≡◌, ◌+◌, ◌<◌, ◌≤◌, ◌^◌, ◌++◌, length, take, drop, slice_index, OnOk, IfOk, if◌then◌else◌};
 ghost use Rattle.dk_lex.specs.Bytes.{begins_number};
 ghost use Rattle.dk_lex.specs.Cut.{Lexed, token_at, word_kind};
-ghost use Rattle.dk_lex.specs.Spans.{AreSpans};
+ghost use Rattle.dk_lex.specs.Spans.{AreSpans, AreStrings};
 
 use crate::form::{Form, Front};
 use crate::front::front_of;
@@ -54,7 +54,8 @@ fn push_token(items: &mut Vec<Token>, at: usize, form: Form, bytes: &[u8]) -> Re
 ///
 /// Of each text just one cut can be made, up to its end or to its first fault; `each_text_lexes` says so. The answer is
 /// the tokens of that cut in order, each with its span, a string's with both quotes (`spans`: they lie in the text, one
-/// behind the other, and none is empty). Else it is
+/// behind the other, and none is empty; `strings`: a string has two bytes or more, and bytes 32 to 126 alone between its
+/// first and its last, which are its quotes). Else it is
 ///
 /// - `OpenString` where the line or the text ends before the string, with the span from the quote to that end;
 /// - `BadByte`, with the span of one byte, where a byte is none that may stand there: in a string, closed or not, before
@@ -64,6 +65,7 @@ pub fn lex(alloc: Global, text: &[u8]) -> Result<Tokens, LexFault>
     requires { length text.now ≤ 1048576 }
     ensures outcome { Lexed text.now result }
     ensures spans { IfOk result (AreSpans text.now) }
+    ensures strings { IfOk result (AreStrings text.now) }
 {
     let mut items = Vec::new(alloc);
     let mut at = 0;

@@ -2,8 +2,9 @@ use Rattle.std.proofs.Common.{◌+◌, take, drop, ap, sym, subst, arith}
 use Rattle.dk_lex.specs.Fronts.{IsFront}
 use Rattle.dk_lex.proofs.Runs.{slice_tail}
 use Rattle.dk_lex.proofs.Cuts.{LexedBefore, lexed_more, lexed_all}
-use Rattle.dk_lex.specs.Spans.{AreSpans}
+use Rattle.dk_lex.specs.Spans.{AreSpans, AreStrings}
 use Rattle.dk_lex.proofs.Spans.{tokens_lie}
+use Rattle.dk_lex.proofs.Strings.{strings_are}
 use Rattle.dk_lex.proofs.lexer.lex.Goals as goal
 
 -- the piece joins the cut, and its token the tokens
@@ -19,3 +20,9 @@ pub returns-clause-spans : goal.returns-clause-spans
 returns-clause-spans c =
     subst (AreSpans c.args.text.now) (sym c.of_vec.ensures)
     (tokens_lie c.args.text.now c.loop-at.items.items (lexed_all c.args.text.now c.loop-at.items.items c.loop-at.at c.loop-at.invariant (omega (arith, c.loop-at-test.false))))
+
+-- its strings have what strings may
+pub returns-clause-strings : goal.returns-clause-strings
+returns-clause-strings c =
+    subst (AreStrings c.args.text.now) (sym c.of_vec.ensures)
+    (strings_are c.args.text.now c.loop-at.items.items (lexed_all c.args.text.now c.loop-at.items.items c.loop-at.at c.loop-at.invariant (omega (arith, c.loop-at-test.false))))
