@@ -45,7 +45,7 @@ module _ (text : List ℕ) where
   abbrev pub section_after : List Token → List Token
   section_after before = behind_last opens_any before
 
-  -- a token as a keyword of a block, which a block's name never is, and of the block in which it stands
+  -- a token as a keyword of a block, which a block's name never is
   abbrev pub entry_in : Block → Token → Option Entry
   entry_in b t = if opens_any t then None else (if is_word t then entry_of b (word t) else None)
 

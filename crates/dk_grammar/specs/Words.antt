@@ -1,7 +1,13 @@
 -- The words of study files, as they are spelled.
 use Rattle.std.specs.Prelude.{ℕ, List, codes}
+use denote.Enum.Declared.{tag_of}
+use Rattle.dk_grammar.specs.contracts.words.Name as name_type
 use Rattle.dk_grammar.specs.declared.words.Name.{Name}
 use Rattle.dk_grammar.specs.declared.words.Name.TheVariants as name
+
+-- where a name stands among the names
+abbrev pub place_of : Name → ℕ
+place_of n = tag_of name_type.the_type n
 
 -- how each word is spelled
 abbrev pub word_of : Name → List ℕ

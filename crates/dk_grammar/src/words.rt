@@ -1,6 +1,7 @@
 // The words of study files.
-ghost use Rattle.std.specs.Prelude.{◌≡◌};
-ghost use Rattle.dk_grammar.specs.Words.{word_of};
+ghost use Rattle.std.specs.Prelude.{◌≡◌, ◌<◌, ◌≤◌};
+ghost use Rattle.dk_grammar.specs.Words.{place_of, word_of};
+ghost use Rattle.dk_grammar.specs.declared.words.Name.TheVariants.{VectorParameterStudy, AnalysisDrivers, Continuation, DiscreteDesignRange, Silent};
 
 /// The blocks of a study file.
 #[derive(Clone, Copy, Debug, PartialEq, Eq)]
@@ -592,8 +593,9 @@ pub const TABLE: [Row; 101] = [
     },
 ];
 
-/// How a word is spelled.
-pub fn word_of(name: Name) -> &'static [u8]
+/// How a block's name or a keyword of `environment` is spelled.
+fn block_word(name: Name) -> &'static [u8]
+    requires { place_of name < place_of VectorParameterStudy }
     ensures { result.now ≡ word_of name }
 {
     match name {
@@ -605,6 +607,16 @@ pub fn word_of(name: Name) -> &'static [u8]
         Name::Responses => b"responses",
         Name::TabularData => b"tabular_data",
         Name::TabularDataFile => b"tabular_data_file",
+        _ => unreachable!(),
+    }
+}
+
+/// How a keyword of `method`, `model` or `variables` is spelled.
+fn method_word(name: Name) -> &'static [u8]
+    requires { place_of VectorParameterStudy ≤ place_of name × place_of name < place_of AnalysisDrivers }
+    ensures { result.now ≡ word_of name }
+{
+    match name {
         Name::VectorParameterStudy => b"vector_parameter_study",
         Name::ListParameterStudy => b"list_parameter_study",
         Name::CenteredParameterStudy => b"centered_parameter_study",
@@ -627,6 +639,16 @@ pub fn word_of(name: Name) -> &'static [u8]
         Name::LowerBounds => b"lower_bounds",
         Name::UpperBounds => b"upper_bounds",
         Name::Descriptors => b"descriptors",
+        _ => unreachable!(),
+    }
+}
+
+/// How a keyword of `interface` or `responses` is spelled.
+fn interface_word(name: Name) -> &'static [u8]
+    requires { place_of AnalysisDrivers ≤ place_of name × place_of name < place_of Continuation }
+    ensures { result.now ≡ word_of name }
+{
+    match name {
         Name::AnalysisDrivers => b"analysis_drivers",
         Name::Fork => b"fork",
         Name::Direct => b"direct",
@@ -646,6 +668,16 @@ pub fn word_of(name: Name) -> &'static [u8]
         Name::ResponseDescriptors => b"response_descriptors",
         Name::NoGradients => b"no_gradients",
         Name::NoHessians => b"no_hessians",
+        _ => unreachable!(),
+    }
+}
+
+/// How a refused word of interfaces or responses is spelled.
+fn refused_interface_word(name: Name) -> &'static [u8]
+    requires { place_of Continuation ≤ place_of name × place_of name < place_of DiscreteDesignRange }
+    ensures { result.now ≡ word_of name }
+{
+    match name {
         Name::Continuation => b"continuation",
         Name::System => b"system",
         Name::Python => b"python",
@@ -671,6 +703,16 @@ pub fn word_of(name: Name) -> &'static [u8]
         Name::NonlinearInequalityConstraints => b"nonlinear_inequality_constraints",
         Name::NonlinearEqualityConstraints => b"nonlinear_equality_constraints",
         Name::Weights => b"weights",
+        _ => unreachable!(),
+    }
+}
+
+/// How any other refused word is spelled: of variables, models or files, a block's id or a pointer to one.
+fn other_refused_word(name: Name) -> &'static [u8]
+    requires { place_of DiscreteDesignRange ≤ place_of name × place_of name < place_of Silent }
+    ensures { result.now ≡ word_of name }
+{
+    match name {
         Name::DiscreteDesignRange => b"discrete_design_range",
         Name::DiscreteDesignSet => b"discrete_design_set",
         Name::ContinuousState => b"continuous_state",
@@ -692,10 +734,41 @@ pub fn word_of(name: Name) -> &'static [u8]
         Name::ResponsesPointer => b"responses_pointer",
         Name::MethodPointer => b"method_pointer",
         Name::TopMethodPointer => b"top_method_pointer",
+        _ => unreachable!(),
+    }
+}
+
+/// How a word that `output` takes is spelled.
+fn mode_word(name: Name) -> &'static [u8]
+    requires { place_of Silent ≤ place_of name }
+    ensures { result.now ≡ word_of name }
+{
+    match name {
         Name::Silent => b"silent",
         Name::Quiet => b"quiet",
         Name::Normal => b"normal",
         Name::Verbose => b"verbose",
         Name::Debug => b"debug",
+        _ => unreachable!(),
+    }
+}
+
+/// How a word is spelled. The names stand by group, and each group has a function of its own.
+pub fn word_of(name: Name) -> &'static [u8]
+    ensures { result.now ≡ word_of name }
+{
+    let place = name as usize;
+    if place < Name::VectorParameterStudy as usize {
+        block_word(name)
+    } else if place < Name::AnalysisDrivers as usize {
+        method_word(name)
+    } else if place < Name::Continuation as usize {
+        interface_word(name)
+    } else if place < Name::DiscreteDesignRange as usize {
+        refused_interface_word(name)
+    } else if place < Name::Silent as usize {
+        other_refused_word(name)
+    } else {
+        mode_word(name)
     }
 }
