@@ -1,0 +1,9 @@
+pub mod Values
+pub mod Document
+pub mod Study
+pub mod Steps
+pub mod Measured
+pub mod Tests
+pub mod Checks
+pub mod Readable
+pub mod Reading

@@ -1,0 +1,48 @@
+// The values of keywords, as they are written.
+ghost use Rattle.std.specs.Prelude.{◌≡◌};
+
+use dk_lex::Span;
+use dk_num::Dec;
+use dk_types::Text;
+use std::marker::Model;
+
+/// A value: where it stands, how many times it stands for itself (none where its N isn't from 1 to 4,000,000), the
+/// whole number and the number that it is behind its N, and the string that it is.
+#[derive(Drop)]
+pub struct Value {
+    pub span: Span,
+    pub copies: Option<u32>,
+    pub whole: Option<u32>,
+    pub number: Option<Dec>,
+    pub string: Option<Text>,
+}
+
+/// Values in order, which contracts see as a list.
+#[derive(Drop)]
+pub struct Values {
+    items: Vec<Value>,
+}
+
+impl Model for Values {
+    ghost use Rattle.std.specs.Prelude.{List};
+    ghost use Rattle.dk_reader.specs.declared.value.Value.{Value as TheValue};
+
+    ghost Value = { List TheValue };
+
+    ghost view = { λ v. v.items.items };
+}
+
+impl Values {
+    /// The values of a vector.
+    pub fn of_vec(items: Vec<Value>) -> Values
+        ensures { result ≡ items.items }
+    {
+        Values { items }
+    }
+
+    pub fn items(&self) -> &[Value]
+        ensures { result.now ≡ self.now }
+    {
+        &self.items
+    }
+}
