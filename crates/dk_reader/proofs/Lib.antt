@@ -8,7 +8,7 @@ mod Wholes
 mod Stars
 mod Printed
 mod Readable
-mod Says
+pub mod Says
 mod TextReads
 pub mod SoundLists
 pub mod SoundSteps
