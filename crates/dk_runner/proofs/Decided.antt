@@ -1,9 +1,8 @@
 -- What follows from how a run ended.
-use Rattle.std.proofs.Common.{◌≡◌, ℕ, ◌+◌, ◌<◌, ◌≤◌, List, [], length, Option, Some, None, refl, ap, sym, ◌∙◌, arith}
-use Rattle.std.specs.Prelude.{IfSome, Err, nat_lt, true, slice_get, get_or}
+use Rattle.std.proofs.Common.{◌≡◌, ℕ, ◌+◌, ◌<◌, ◌≤◌, List, [], length, Option, Some, None, ap, sym, ◌∙◌, arith}
+use Rattle.std.specs.Prelude.{IfSome, slice_get, get_or}
 use Rattle.std.proofs.lemmas.Option.{slice_get-get_or}
 use Rattle.dk_types.specs.Texts.{best_lines, best_lines_if, best_text}
-use Rattle.std.proofs.lemmas.Grind.{common_steps}
 use Rattle.dk_types.specs.declared.study.Study.{Study}
 use Rattle.dk_types.specs.declared.study.Ending.{Ending}
 use Rattle.dk_types.specs.declared.study.Ending.TheVariants.{Finished, Aborted}
@@ -13,9 +12,9 @@ use Rattle.dk_runner.specs.Evaluated.{IsEvaluated}
 use Rattle.dk_types.specs.Solo.{Solo, rosenbrock_child}
 use Rattle.dk_types.specs.Laws.{EndsAt}
 use Rattle.dk_types.proofs.Alone.{rows_are_points}
-use Rattle.dk_runner.specs.Form.{read_form, Refused}
+use Rattle.dk_runner.specs.Accepted.{Refused, too_long, at_beginning}
 use Rattle.dk_runner.proofs.Repeats.{evaluated_step}
-use Rattle.dk_runner.specs.declared.status.StudyKind.TheVariants.{TooLong}
+use Rattle.dk_reader.specs.declared.fault.StudyKind.TheVariants.{TooLong}
 
 at_most : (study : Study) (count : ℕ) (ending : Ending) → EndsAt study rosenbrock_child count ending → count ≤ size study
 at_most study count (Finished why) h = omega (arith, h)
@@ -28,15 +27,11 @@ few_rows study rows ending evaluated alone =
     let b = (evaluated_step study.method evaluated.method).most in
     omega arith
 
-pub too_long : (text : List ℕ) → 1048576 < length text → read_form text ≡ Err TooLong
-unfolding read_form
-too_long text h = let e : nat_lt 1048576 (length text) ≡ true = grind (arith, common_steps) in rw e refl
-
 -- a text that is too long is refused so, where the source tells
 pub refuses_long : (left : Option (List ℕ)) → IfSome left (λ bytes. 1048576 < length bytes) →
-    IfSome left (λ text. Refused text (record { kind = TooLong; span = record { from = 0; to = 0 } }))
+    IfSome left (λ text. Refused text (at_beginning TooLong))
 refuses_long None h = tt
-refuses_long (Some text) h = (too_long text h, refl, refl)
+refuses_long (Some text) h = too_long h
 
 pub best_is : (study : Study) (rows : List Row) (found : Option ℕ) (i : ℕ) (row : Row) → found ≡ Some i → i < length rows → row ≡ get_or rows i row →
     best_lines study (i + 1) row ≡ best_text study rows found

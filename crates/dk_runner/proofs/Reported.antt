@@ -6,7 +6,7 @@ use Rattle.dk_types.specs.declared.study.Ending.{Ending}
 use Rattle.dk_types.specs.declared.rows.Row.{Row}
 use Rattle.dk_types.specs.Solo.{Solo, rosenbrock_child}
 use Rattle.dk_runner.specs.Words.{IsRun}
-use Rattle.dk_runner.specs.Form.{Reads}
+use Rattle.dk_runner.specs.Accepted.{Accepts}
 use Rattle.dk_runner.specs.Endings.{Scene, EndsSo, Reports}
 use Rattle.dk_runner.specs.declared.status.Status.{Status}
 use Rattle.dk_runner.specs.declared.status.Status.TheVariants.{Finished, Aborted, Usage, StudyRefused, SourceFault, SinkFault, NoMemory}
@@ -18,14 +18,14 @@ abbrev ReportsIn : Scene → Study → List Row → Ending → Status → Type 0
 ReportsIn s study rows ending status = Reports study rows ending s.table_old s.table_new s.table_before s.table_now s.out_old s.out_new s.out_before s.out_now status
 
 pub ends_so : (s : Scene) (untouched : Type 0) (study : Study) (rows : List Row) (ending : Ending) (status : Status) →
-    IsRun s.words × IfSome s.left (λ text. Reads text study) → Solo study rosenbrock_child [] rows ending → ReportsIn s study rows ending status → EndsSo s untouched status
+    IsRun s.words × IfSome s.left (λ text. Accepts text study) → Solo study rosenbrock_child [] rows ending → ReportsIn s study rows ending status → EndsSo s untouched status
 ends_so s untouched study rows ending Finished reason alone h = (
   reason.0,
-  told s.left (λ text reads. record {
+  told s.left (λ text accepts. record {
     study = study;
     rows = rows;
     ending = ending;
-    evaluates = record { reads = reads; alone = alone };
+    evaluates = record { accepts = accepts; alone = alone };
     status_is = h.1.0;
     in_table = h.0;
     in_out = h.1.1;
@@ -33,11 +33,11 @@ ends_so s untouched study rows ending Finished reason alone h = (
 )
 ends_so s untouched study rows ending Aborted reason alone h = (
   reason.0,
-  told s.left (λ text reads. record {
+  told s.left (λ text accepts. record {
     study = study;
     rows = rows;
     ending = ending;
-    evaluates = record { reads = reads; alone = alone };
+    evaluates = record { accepts = accepts; alone = alone };
     status_is = h.1.0;
     in_table = h.0;
     in_out = h.1.1;
@@ -46,11 +46,11 @@ ends_so s untouched study rows ending Aborted reason alone h = (
 ends_so s untouched study rows ending (SinkFault Table) reason alone h = (
   reason.0,
   h.0,
-  told s.left (λ text reads. record {
+  told s.left (λ text accepts. record {
     study = study;
     rows = rows;
     ending = ending;
-    evaluates = record { reads = reads; alone = alone };
+    evaluates = record { accepts = accepts; alone = alone };
     in_table = h.1;
   }) reason.1,
   h.2,
@@ -58,11 +58,11 @@ ends_so s untouched study rows ending (SinkFault Table) reason alone h = (
 ends_so s untouched study rows ending (SinkFault Out) reason alone h = (
   reason.0,
   h.1.0,
-  told s.left (λ text reads. record {
+  told s.left (λ text accepts. record {
     study = study;
     rows = rows;
     ending = ending;
-    evaluates = record { reads = reads; alone = alone };
+    evaluates = record { accepts = accepts; alone = alone };
     in_table = h.0;
     in_out = h.1.1;
   }) reason.1,

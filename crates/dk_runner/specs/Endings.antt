@@ -7,20 +7,20 @@ use Rattle.dk_types.specs.declared.study.Ending.{Ending}
 use Rattle.dk_types.specs.declared.rows.Row.{Row}
 use Rattle.dk_types.specs.Texts.{table, summary}
 use Rattle.dk_runner.specs.Words.{IsRun, Misused}
-use Rattle.dk_runner.specs.Form.{Reads, Refused}
+use Rattle.dk_runner.specs.Accepted.{Accepts, Refused, at_beginning}
 use Rattle.dk_runner.specs.Lines.{line, status_of}
 use Rattle.dk_runner.specs.Headline.{Written, BreaksTable, BreaksSummary, Says, HasTable, HasFront}
 use Rattle.dk_runner.specs.declared.status.Status.{Status}
 use Rattle.dk_runner.specs.declared.status.Status.TheVariants.{Finished, Aborted, Usage, StudyRefused, SourceFault, SinkFault, NoMemory}
-use Rattle.dk_runner.specs.declared.status.StudyKind.{StudyKind}
+use Rattle.dk_reader.specs.declared.fault.StudyKind.{StudyKind}
 use Rattle.dk_runner.specs.declared.status.Which.TheVariants.{Table, Out}
 
 abbrev pub refused_as : StudyKind → Status
-refused_as kind = StudyRefused (record { kind = kind; span = record { from = 0; to = 0 } })
+refused_as kind = StudyRefused (at_beginning kind)
 
--- a text is a study's, or why it isn't accepted
+-- the study that a text gives, or why it gives none
 abbrev pub IsTextReason : List ℕ → Result Study Status → Type 0
-IsTextReason text (Ok study) = Reads text study
+IsTextReason text (Ok study) = Accepts text study
 IsTextReason text (Err (StudyRefused fault)) = Refused text fault
 IsTextReason text (Err NoMemory) = Unit {0}
 IsTextReason text (Err _) = ⊥
@@ -35,7 +35,7 @@ IsCause words left before now _ = ⊥
 
 -- the words are a run's and the text is a study's, or the cause why not
 abbrev pub IsReason : (words : List (List ℕ)) (left : Option (List ℕ)) (before now : ℕ) → Result Study Status → Type 0
-IsReason words left before now (Ok study) = IsRun words × IfSome left (λ text. Reads text study)
+IsReason words left before now (Ok study) = IsRun words × IfSome left (λ text. Accepts text study)
 IsReason words left before now (Err status) = IsCause words left before now status
 
 -- how the summary of a decided study was written

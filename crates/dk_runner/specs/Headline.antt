@@ -7,15 +7,15 @@ use Rattle.dk_types.specs.declared.study.Ending.{Ending}
 use Rattle.dk_types.specs.declared.rows.Row.{Row}
 use Rattle.dk_types.specs.Solo.{Solo, rosenbrock_child}
 use Rattle.dk_types.specs.Texts.{table, summary}
-use Rattle.dk_runner.specs.Form.{Reads, Refused}
+use Rattle.dk_runner.specs.Accepted.{Accepts, Refused}
 use Rattle.dk_runner.specs.Lines.{status_of}
 use Rattle.dk_runner.specs.declared.status.Status.{Status}
 use Rattle.dk_runner.specs.declared.status.Status.TheVariants.{StudyRefused, NoMemory}
-use Rattle.dk_runner.specs.declared.status.StudyFault.{StudyFault}
+use Rattle.dk_reader.specs.declared.fault.StudyFault.{StudyFault}
 
 -- a study's text, its rows and its ending, where it is evaluated one point at a time
 pub record Evaluates (text : List ℕ) (study : Study) (rows : List Row) (ending : Ending) : Type 0 where
-  pub reads : Reads text study
+  pub accepts : Accepts text study
   pub alone : Solo study rosenbrock_child [] rows ending
 
 -- the sink was begun with the table's name and has taken these bytes and nothing else, where the study asks for one

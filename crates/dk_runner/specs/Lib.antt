@@ -1,9 +1,8 @@
 pub mod Words
-pub mod Pieces
-pub mod Numbers
+pub mod Sorting
 pub mod Evaluated
-pub mod Form
-pub mod FormAnswers
+pub mod Accepted
 pub mod Lines
 pub mod Headline
 pub mod Endings
+pub mod Checked

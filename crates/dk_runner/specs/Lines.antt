@@ -4,8 +4,8 @@ use Rattle.dk_types.specs.declared.study.Ending.{Ending}
 use Rattle.dk_types.specs.declared.study.Ending.TheVariants.{Finished as EndingFinished, Aborted as EndingAborted}
 use Rattle.dk_runner.specs.declared.status.Status.{Status}
 use Rattle.dk_runner.specs.declared.status.Status.TheVariants.{Finished, Aborted, Usage, StudyRefused, SourceFault, SinkFault, NoMemory}
-use Rattle.dk_runner.specs.declared.status.StudyKind.{StudyKind}
-use Rattle.dk_runner.specs.declared.status.StudyKind.TheVariants.{TooLong, Unsupported, OffGrid}
+use Rattle.dk_reader.specs.declared.fault.StudyKind.{StudyKind}
+use Rattle.dk_reader.specs.declared.fault.StudyKind.TheVariants as kinds
 use Rattle.dk_runner.specs.declared.status.Which.TheVariants.{Table, Out}
 
 abbrev pub code : Status → ℕ
@@ -18,9 +18,23 @@ code (SinkFault which) = 9
 code NoMemory = 10
 
 abbrev pub kind_text : StudyKind → List ℕ
-kind_text TooLong = codes "TooLong"
-kind_text Unsupported = codes "Unsupported"
-kind_text OffGrid = codes "OffGrid"
+kind_text kinds.TooLong = codes "TooLong"
+kind_text kinds.OpenString = codes "OpenString"
+kind_text kinds.BadByte = codes "BadByte"
+kind_text kinds.UnknownKeyword = codes "UnknownKeyword"
+kind_text kinds.Unsupported = codes "Unsupported"
+kind_text kinds.Repeated = codes "Repeated"
+kind_text kinds.Misplaced = codes "Misplaced"
+kind_text kinds.MissingBlock = codes "MissingBlock"
+kind_text kinds.Missing = codes "Missing"
+kind_text kinds.Conflict = codes "Conflict"
+kind_text kinds.WrongCount = codes "WrongCount"
+kind_text kinds.BadNumber = codes "BadNumber"
+kind_text kinds.BadWhole = codes "BadWhole"
+kind_text kinds.BadLabel = codes "BadLabel"
+kind_text kinds.OutsideBounds = codes "OutsideBounds"
+kind_text kinds.TooMany = codes "TooMany"
+kind_text kinds.OffGrid = codes "OffGrid"
 
 abbrev pub line : Status → List ℕ
 line Finished = []

@@ -1,25 +1,151 @@
--- The words of the command line: -i FILE.
-use Rattle.std.specs.Prelude.{◌≡◌, ℕ, Bool, false, not, List, [], ◌∷◌, codes, Option, Some, None, ◌==◌, if◌then◌else◌}
+-- The words of the command line: their pieces, their first fault, and what they command.
+use Rattle.std.specs.Prelude.{◌≡◌, ◌↔◌, ℕ, ◌+◌, ◌≤◌, Bool, true, false, not, List, [], ◌∷◌, ◌++◌, codes, length, Option, Some, None, is_some, is_none, option_and_then, Result, Ok, Err, ◌==◌, ◌&&◌, ◌||◌, if◌then◌else◌}
+use Rattle.std.specs.List.{find, flat_map}
+use Rattle.std.specs.Option.{option_map, option_map_or, option_or}
 use Rattle.std.specs.Str.{bytes_eq}
+use Rattle.dk_grammar.specs.Lists.{first, when, IsFirst, Place, places}
+use Rattle.dk_runner.specs.declared.words.OptionName.{OptionName}
+use Rattle.dk_runner.specs.declared.words.OptionName.TheVariants.{Input, Check}
+use Rattle.dk_runner.specs.declared.commands.Command.{Command}
+use Rattle.dk_runner.specs.declared.commands.Command.TheVariants as command
+use Rattle.dk_runner.specs.declared.commands.CommandFault.{CommandFault}
+use Rattle.dk_runner.specs.declared.commands.CommandFault.TheVariants.{Usage, NoMemory}
 
 -- a file's name isn't empty, and doesn't begin with a dash
 abbrev pub is_file : List ℕ → Bool
 is_file [] = false
 is_file (c ∷ cs) = not (c == 45)
 
--- behind the option: a file's name at the second place, and nothing at the third
-abbrev pub fault_behind_option : List (List ℕ) → Option ℕ
-fault_behind_option [] = Some 2
-fault_behind_option (file ∷ []) = if is_file file then None else Some 2
-fault_behind_option (file ∷ (word ∷ words)) = if is_file file then Some 3 else Some 2
+-- the option that a word is
+abbrev pub option_of : List ℕ → Option OptionName
+option_of word =
+    if bytes_eq word (codes "-i") || bytes_eq word (codes "-input") then Some Input
+    else (if bytes_eq word (codes "-check") then Some Check else None)
 
--- the place of the first fault, counted from 1
-abbrev pub usage_fault : List (List ℕ) → Option ℕ
-usage_fault [] = Some 1
-usage_fault (option ∷ words) = if bytes_eq option (codes "-i") then fault_behind_option words else Some 1
+-- the options that need a FILE
+abbrev pub takes_file : OptionName → Bool
+takes_file Input = true
+takes_file Check = false
+
+abbrev pub same_option : OptionName → OptionName → Bool
+same_option Input Input = true
+same_option Check Check = true
+same_option _ _ = false
+
+-- a word that stands where an option is due, at its place, with the word behind it where it stands for a FILE
+pub record Piece : Type 0 where
+  pub at : ℕ
+  pub option : Option OptionName
+  pub file : Option (List ℕ)
+
+-- the word is an option that needs a FILE
+abbrev pub needs_file : List ℕ → Bool
+needs_file word = option_map_or takes_file (option_of word) false
+
+abbrev pub piece : ℕ → List ℕ → Option (List ℕ) → Piece
+piece at word file = record { at = at; option = option_of word; file = file }
+
+-- words cut into pieces, where the first word stands at this place
+abbrev pub pieces_from : ℕ → List (List ℕ) → List Piece
+pieces_from at [] = []
+pieces_from at (word ∷ []) = piece at word None ∷ []
+pieces_from at (word ∷ (next ∷ words)) =
+    if needs_file word then piece at word (Some next) ∷ pieces_from (at + 2) words
+    else piece at word None ∷ pieces_from (at + 1) (next ∷ words)
+
+-- places are counted from 1
+abbrev pub pieces : List (List ℕ) → List Piece
+pieces words = pieces_from 1 words
+
+-- a piece of this option
+abbrev pub is_of : OptionName → Piece → Bool
+is_of name p = option_map_or (same_option name) p.option false
+
+-- the first piece of an option
+abbrev pub piece_of : OptionName → List Piece → Option Piece
+piece_of name ps = find (is_of name) ps
+
+-- its option stands before, in either spelling
+abbrev pub is_second : Place Piece → Bool
+is_second p = option_map_or (λ name. is_some (piece_of name p.before)) p.here.option false
+
+-- it needs a FILE, and none stands behind it
+abbrev pub lacks_file : Piece → Bool
+lacks_file p = option_map_or takes_file p.option false && not (option_map_or is_file p.file false)
+
+-- the places of what is wrong with a piece behind others
+abbrev pub piece_faults : Place Piece → List ℕ
+piece_faults p =
+    when (is_none p.here.option) p.here.at ++ when (is_second p) p.here.at ++ when (lacks_file p.here) (p.here.at + 1)
+
+-- the place of an option, where it stands
+unfoldable pub place_of : OptionName → List (List ℕ) → Option ℕ
+place_of name words = option_map (λ p. p.at) (piece_of name (pieces words))
+
+-- the places of all faults, in order; where no study is named, one past the last word
+unfoldable pub faults : List (List ℕ) → List ℕ
+faults words = flat_map piece_faults (places (pieces words)) ++ when (is_none (piece_of Input (pieces words))) (length words + 1)
+
+abbrev pub commanded : (checks : Bool) → List ℕ → Command
+commanded checks file = if checks then command.Check file else command.Run file
+
+-- words without a fault command a run of their FILE, or a check of it
+unfoldable pub command_of : List (List ℕ) → Option Command
+command_of words = option_map (commanded (is_some (piece_of Check (pieces words)))) (option_and_then (λ p. p.file) (piece_of Input (pieces words)))
+
+-- the words have no fault, and this is what they command
+pub record Words (words : List (List ℕ)) (c : Command) : Type 0 where
+  pub faultless : faults words ≡ []
+  pub commands : command_of words ≡ Some c
+
+-- the first fault of the words stands at this place
+abbrev pub HasFault : List (List ℕ) → ℕ → Type 0
+HasFault words at = IsFirst at (faults words)
+
+abbrev pub CommandRead : List (List ℕ) → Result Command CommandFault → Type 0
+CommandRead words (Ok c) = Words words c
+CommandRead words (Err (Usage at)) = HasFault words at
+CommandRead words (Err NoMemory) = Unit {0}
+
+-- a command, or the place of the first fault
+abbrev pub Tells : List (List ℕ) → Result Command ℕ → Type 0
+Tells words (Ok c) = Words words c
+Tells words (Err at) = HasFault words at
+
+-- each list of words has just one command or just one first fault
+abbrev pub EachCommandOrPlace : Type 0
+EachCommandOrPlace = (words : List (List ℕ)) → (outcome : Result Command ℕ) × Tells words outcome × ((other : Result Command ℕ) → Tells words other → other ≡ outcome)
+
+-- places in order, none before the first bound nor behind the last
+abbrev pub AreInOrder : (low high : ℕ) → List ℕ → Type 0
+AreInOrder low high [] = low ≤ high
+AreInOrder low high (place ∷ places) = (low ≤ place) × AreInOrder place high places
+
+-- the faults of words stand in order, so that the first has the least place, and one past the last word at most
+abbrev pub EachFaultInOrder : Type 0
+EachFaultInOrder = (words : List (List ℕ)) → AreInOrder 1 (length words + 1) (faults words)
+
+-- where words aren't those of a run: at their first fault, or else at `-check`
+unfoldable pub run_fault : List (List ℕ) → Option ℕ
+run_fault words = option_or (first (faults words)) (place_of Check words)
 
 abbrev pub Misused : List (List ℕ) → ℕ → Type 0
-Misused words at = usage_fault words ≡ Some at
+Misused words at = run_fault words ≡ Some at
 
 abbrev pub IsRun : List (List ℕ) → Type 0
-IsRun words = usage_fault words ≡ None
+IsRun words = run_fault words ≡ None
+
+-- where words aren't those of a check: at their first fault, or else at `-i` or `-input` where no `-check` stands
+unfoldable pub check_fault : List (List ℕ) → Option ℕ
+check_fault words = option_or (first (faults words)) (if is_some (place_of Check words) then None else place_of Input words)
+
+abbrev pub MisusedCheck : List (List ℕ) → ℕ → Type 0
+MisusedCheck words at = check_fault words ≡ Some at
+
+abbrev pub IsCheck : List (List ℕ) → Type 0
+IsCheck words = check_fault words ≡ None
+
+-- words are a run's where they command one, and a check's where they command that
+abbrev pub EachCallIsCommanded : Type 0
+EachCallIsCommanded =
+    (words : List (List ℕ)) → (IsRun words ↔ ((input : List ℕ) × Words words (command.Run input))) × (IsCheck words ↔ ((input : List ℕ) × Words words (command.Check input)))

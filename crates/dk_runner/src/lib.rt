@@ -3,10 +3,11 @@
 #![tactic(auto)]
 
 mod best;
+mod built;
+mod checks;
+mod commands;
 mod evaluate;
-mod form;
-mod numbers;
-mod pieces;
+pub mod laws;
 mod refusal;
 mod run;
 mod status;
@@ -16,6 +17,11 @@ mod table;
 mod tests;
 mod words;
 
-pub use refusal::say;
+pub use checks::check;
+pub use commands::{Command, CommandFault};
+pub use dk_lex::Span;
+pub use dk_reader::{StudyFault, StudyKind};
+pub use refusal::{say, usage};
 pub use run::{Ended, dakota};
-pub use status::{Span, Status, StudyFault, StudyKind, Which};
+pub use status::{Status, Which};
+pub use words::command;

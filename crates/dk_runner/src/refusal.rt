@@ -18,6 +18,17 @@ pub fn say<U: Sink>(status: &Status, out: &mut U)
     let _ = buffer.finish(out);
 }
 
+/// Says that the words of the command line have their first fault at this place, and answers so.
+pub fn usage<U: Sink>(at: u32, out: &mut U) -> Status
+    ensures status { result ≡ Usage at }
+    ensures says { Says (U.held out.old) (U.held out.new) (U.faults out.old) (U.faults out.new) (line result) }
+    ensures grows { OnlyGrows (U.held out.old) (U.held out.new) }
+{
+    let status = Status::Usage { at };
+    say(&status, out);
+    status
+}
+
 fn put_line<U: Sink>(status: &Status, buffer: &mut Buffer, out: &mut U)
     ensures { CarriesOn (flow (U.held out.old) (U.faults out.old) buffer.old) (flow (U.held out.new) (U.faults out.new) buffer.new) (line status.now) }
 {
@@ -68,7 +79,21 @@ fn kind_name(kind: StudyKind) -> &'static [u8]
 {
     match kind {
         StudyKind::TooLong => b"TooLong",
+        StudyKind::OpenString => b"OpenString",
+        StudyKind::BadByte => b"BadByte",
+        StudyKind::UnknownKeyword => b"UnknownKeyword",
         StudyKind::Unsupported => b"Unsupported",
+        StudyKind::Repeated => b"Repeated",
+        StudyKind::Misplaced => b"Misplaced",
+        StudyKind::MissingBlock => b"MissingBlock",
+        StudyKind::Missing => b"Missing",
+        StudyKind::Conflict => b"Conflict",
+        StudyKind::WrongCount => b"WrongCount",
+        StudyKind::BadNumber => b"BadNumber",
+        StudyKind::BadWhole => b"BadWhole",
+        StudyKind::BadLabel => b"BadLabel",
+        StudyKind::OutsideBounds => b"OutsideBounds",
+        StudyKind::TooMany => b"TooMany",
         StudyKind::OffGrid => b"OffGrid",
     }
 }

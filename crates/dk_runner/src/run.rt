@@ -4,21 +4,22 @@ ghost use Rattle.dk_outside.specs.Causes.{Rose};
 ghost use Rattle.dk_types.specs.Solo.{Solo, rosenbrock_child};
 ghost use Rattle.dk_runner.specs.Words.{IsRun, Misused};
 ghost use Rattle.dk_runner.specs.Evaluated.{IsEvaluated};
-ghost use Rattle.dk_runner.specs.Form.{Refused};
+ghost use Rattle.dk_runner.specs.Accepted.{Refused};
 ghost use Rattle.dk_runner.specs.Lines.{line, status_of as status_of_lem, is_decided, is_early, has_line};
 ghost use Rattle.dk_runner.specs.Headline.{Written, BreaksTable, BreaksSummary, Says, OnlyGrows, EndsAsEvaluated, TellsRefusal};
 ghost use Rattle.dk_runner.specs.Endings.{IsReason, IsTextReason, refused_as, EndsSo, Reports, Summarizes, scene};
-ghost use Rattle.dk_runner.specs.declared.status.StudyFault.{StudyFault};
+ghost use Rattle.dk_reader.specs.declared.fault.StudyFault.{StudyFault};
 
+use crate::built::is_built;
 use crate::evaluate::{Ran, evaluate};
-use crate::form::{FormFault, read_form};
 use crate::refusal::say;
 use crate::summary::write_summary;
 use crate::table::write_table;
-use crate::words::usage;
+use crate::words::usage_of_run;
 use crate::{Span, Status, StudyFault, StudyKind, Which};
 use dk_outside::source::{TextFault, read_text};
 use dk_outside::{Bench, Disk, Failed, Sink, Source};
+use dk_reader::{ReadRefusal, read_study};
 use dk_types::{Ending, Study};
 use std::alloc::Global;
 
@@ -33,7 +34,9 @@ pub struct Ended<K, B> {
 /// Does all that the program does.
 ///
 /// The words are `-i FILE`, and `study` is the source over that file. Its text is read, the study is evaluated one
-/// point after another up to the first point without a value, and the table and then the summary are written.
+/// point after another up to the first point without a value, and the table and then the summary are written. A text may
+/// say any study; so far vector studies with a step over the program's own function are evaluated, and each other one is
+/// refused as unsupported, with an empty span at the text's beginning.
 pub fn dakota<S: Source, K: Disk, T: Sink, U: Sink, B: Bench>(
     alloc: Global,
     words: &[String],
@@ -124,7 +127,7 @@ fn accept<S: Source>(alloc: Global, words: &[String], source: &mut S) -> Result<
     ensures early { IfErr result (λ status. IsTrue (is_early status)) }
     ensures evaluated { IfOk result IsEvaluated }
 {
-    if let Some(at) = usage(words) {
+    if let Some(at) = usage_of_run(words) {
         return Err(Status::Usage { at });
     }
     match read_text(alloc, source) {
@@ -142,10 +145,11 @@ fn accept_text(alloc: Global, text: &[u8]) -> Result<Study, Status>
     ensures early { IfErr result (λ status. IsTrue (is_early status)) }
     ensures evaluated { IfOk result IsEvaluated }
 {
-    match read_form(alloc, text) {
-        Ok(study) => Ok(study),
-        Err(FormFault::Refused(kind)) => Err(refused(kind)),
-        Err(FormFault::NoMemory) => Err(Status::NoMemory),
+    match read_study(alloc, text) {
+        Ok(study) if is_built(&study) => Ok(study),
+        Ok(_) => Err(refused(StudyKind::Unsupported)),
+        Err(ReadRefusal::Study(fault)) => Err(Status::StudyRefused(fault)),
+        Err(ReadRefusal::NoMemory) => Err(Status::NoMemory),
     }
 }
 

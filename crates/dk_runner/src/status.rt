@@ -1,28 +1,5 @@
 // How a run ends.
-/// A part of the study's text: the bytes from `from` on up to `to`, counted from 0.
-#[derive(Clone, Copy, Debug, PartialEq, Eq)]
-pub struct Span {
-    pub from: u32,
-    pub to: u32,
-}
-
-/// Why a study's text is refused.
-#[derive(Clone, Copy, Debug, PartialEq, Eq)]
-pub enum StudyKind {
-    /// It has more than 1,048,576 bytes.
-    TooLong,
-    /// It isn't of the form that is read.
-    Unsupported,
-    /// One of its numbers isn't a whole multiple of their unit.
-    OffGrid,
-}
-
-/// The fault of a study's text, and where it stands. So far the span is always empty, at the text's beginning.
-#[derive(Clone, Copy, Debug, PartialEq, Eq)]
-pub struct StudyFault {
-    pub kind: StudyKind,
-    pub span: Span,
-}
+use dk_reader::StudyFault;
 
 /// One of the two sinks.
 #[derive(Clone, Copy, Debug, PartialEq, Eq)]

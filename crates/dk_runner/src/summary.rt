@@ -159,7 +159,8 @@ fn put_setting<U: Sink>(label: &Text, value: &Dec, buffer: &mut Buffer, out: &mu
     put_decimal(value, buffer, out);
 }
 
-fn put_number<U: Sink>(number: usize, buffer: &mut Buffer, out: &mut U)
+/// Puts a number in decimal digits.
+pub fn put_number<U: Sink>(number: usize, buffer: &mut Buffer, out: &mut U)
     ensures { CarriesOn (flow (U.held out.old) (U.faults out.old) buffer.old) (flow (U.held out.new) (U.faults out.new) buffer.new) (decimal number) }
 {
     let mut digits = itoa::Buffer::new();

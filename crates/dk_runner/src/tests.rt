@@ -1,10 +1,15 @@
 //! Whole runs over a source and sinks in memory.
+mod checks;
+mod command_line;
 mod fakes;
+mod texts;
 
 use crate::{Span, Status, StudyFault, StudyKind, Which, dakota};
-use fakes::{Given, Idle, Kept, study_text};
+use fakes::{Given, Idle, Kept};
 use std::alloc::{AllocError, Global};
+use std::process::Abort;
 use std::test::Fail;
+use texts::{BASE, edited, unmarked};
 
 const FOUND: &str = "<<<<< Study finished: complete
 <<<<< Function evaluation summary: 3 total (3 new, 0 duplicate)
@@ -50,6 +55,23 @@ const STANDS_STILL: &str = "<<<<< Study finished: complete
 <<<<< Best objective function: obj_fn = 0
 ";
 
+const OTHER_LABELS: &str = "<<<<< Study finished: complete
+<<<<< Function evaluation summary: 3 total (3 new, 0 duplicate)
+<<<<< Best evaluation: 3
+<<<<< Best parameters: length = 1, width = 1
+<<<<< Best objective function: cost = 0
+";
+
+const OTHER_HEADER: &str = "%eval_id interface length width cost
+1 NO_ID 0 0 1
+2 NO_ID 0.5 0.5 6.5
+3 NO_ID 1 1 0
+";
+
+const NO_BEST: &str = "<<<<< Study finished: complete
+<<<<< Function evaluation summary: 3 total (3 new, 0 duplicate)
+";
+
 /// What a run left: its status, the table's name and bytes, and the bytes on standard output.
 #[derive(Drop)]
 struct Left {
@@ -82,10 +104,10 @@ fn run(alloc: Global, words: &[&str], mut source: Given, room: usize) -> Result<
     })
 }
 
-fn refused(kind: StudyKind) -> Status {
+fn refused(kind: StudyKind, from: u32, to: u32) -> Status {
     Status::StudyRefused(StudyFault {
         kind,
-        span: Span { from: 0, to: 0 },
+        span: Span { from, to },
     })
 }
 
@@ -93,7 +115,7 @@ fn refused(kind: StudyKind) -> Status {
 #[test]
 fn a_study_is_evaluated_and_told(rt: HostRuntime) -> Result<(), Fail> {
     let alloc = rt.alloc();
-    let text = study_text(alloc, "2", "0.5 0.5", "0 0")?;
+    let text = edited(alloc, &[])?;
     let left = run(alloc, &["-i", "s1.in"], Given::of(text), 1000)?;
     assert_eq!(rt; left.status, Status::Finished);
     assert_eq!(rt; left.table.name(), b"t.dat".as_slice());
@@ -107,31 +129,39 @@ fn a_study_is_evaluated_and_told(rt: HostRuntime) -> Result<(), Fail> {
 #[test]
 fn other_numbers_give_other_rows(rt: HostRuntime) -> Result<(), Fail> {
     let alloc = rt.alloc();
-    let cases = [
-        ("0", "0.5 0.5", "0 0", Status::Finished, ONE_ROW, ONE_POINT),
+    let cases: [(&[(&str, &str)], Status, &str, &str); 3] = [
         (
-            "1",
-            "0.3333333333333333333333333333 0",
-            "0 0",
+            &[("num_steps = 2", "num_steps = 0")],
+            Status::Finished,
+            ONE_ROW,
+            ONE_POINT,
+        ),
+        (
+            &[
+                ("num_steps = 2", "num_steps = 1"),
+                ("0.5 0.5", "0.3333333333333333333333333333 0"),
+            ],
             Status::Aborted,
             ONE_ROW,
             ABORTED,
         ),
         (
-            "00002",
-            "0 0e7",
-            "+1. 1e0",
+            &[
+                ("num_steps = 2", "num_steps = 00002"),
+                ("0.5 0.5", "0 0e7"),
+                ("initial_point = 0 0", "initial_point = +1. 1e0"),
+            ],
             Status::Finished,
             SAME_ROWS,
             STANDS_STILL,
         ),
     ];
-    for (steps, step, initial, status, rows, told) in cases {
-        let text = study_text(alloc, steps, step, initial)?;
+    for (edits, status, rows, told) in cases {
+        let text = edited(alloc, edits)?;
         let left = run(alloc, &["-i", "s1.in"], Given::of(text), 1000)?;
-        assert_eq!(rt; left.status, status, "at {step}");
-        assert_eq!(rt; left.table.taken(), rows.as_bytes(), "at {step}");
-        assert_eq!(rt; left.out.taken(), told.as_bytes(), "at {step}");
+        assert_eq!(rt; left.status, status, "{told}");
+        assert_eq!(rt; left.table.taken(), rows.as_bytes(), "{told}");
+        assert_eq!(rt; left.out.taken(), told.as_bytes(), "{told}");
     }
     Ok(())
 }
@@ -156,35 +186,112 @@ fn other_words_are_refused_at_their_place(rt: HostRuntime) -> Result<(), Fail> {
     Ok(())
 }
 
-/// A text that is no study's is refused, and nothing is evaluated.
+/// Labels, the table's name and the response are the text's. Without an objective function there is no best row, and
+/// the sink of a table that isn't asked for isn't called.
 #[test]
-fn other_texts_are_refused(rt: HostRuntime) -> Result<(), Fail> {
+fn other_parts_of_a_study_are_the_texts(rt: HostRuntime) -> Result<(), Fail> {
     let alloc = rt.alloc();
-    let long = vec![in alloc; b'#'; 1_048_577]?;
-    let off_grid = study_text(alloc, "2", "1e20 1e-20", "0 0")?;
-    let cases = [
-        (Vec::new(alloc), StudyKind::Unsupported),
+    let cases: [(&[(&str, &str)], &str, &str, &str); 2] = [
         (
-            study_text(alloc, "10001", "1 1", "0 0")?,
-            StudyKind::Unsupported,
+            &[
+                ("'t.dat'", "'rows.txt'"),
+                ("'x1' 'x2'", "'length' 'width'"),
+                (
+                    "objective_functions = 1",
+                    "objective_functions = 1 descriptors = 'cost'",
+                ),
+            ],
+            "rows.txt",
+            OTHER_HEADER,
+            OTHER_LABELS,
         ),
         (
-            study_text(alloc, "2", "1 1e401", "0 0")?,
-            StudyKind::Unsupported,
+            &[
+                ("  tabular_data\n    tabular_data_file = 't.dat'\n", ""),
+                ("'x1' 'x2'", "'length' 'width'"),
+                ("objective_functions", "response_functions"),
+            ],
+            "",
+            "",
+            NO_BEST,
         ),
-        (
-            study_text(alloc, "2", "1 1 1", "0 0")?,
-            StudyKind::Unsupported,
-        ),
-        (off_grid, StudyKind::OffGrid),
-        (long, StudyKind::TooLong),
     ];
-    for (text, kind) in cases {
+    for (edits, name, rows, told) in cases {
+        let text = edited(alloc, edits)?;
         let left = run(alloc, &["-i", "s1.in"], Given::of(text), 1000)?;
-        assert_eq!(rt; left.status, refused(kind));
-        let name = format!(in alloc; "dakota: study refused: {kind:?} at bytes 0..0\n")?;
-        assert_eq!(rt; left.out.taken(), name.as_bytes());
-        assert_eq!(rt; left.table.name().len(), 0);
+        assert_eq!(rt; left.status, Status::Finished);
+        assert_eq!(rt; left.table.name(), name.as_bytes());
+        assert_eq!(rt; left.table.taken(), rows.as_bytes());
+        assert_eq!(rt; left.out.taken(), told.as_bytes());
+    }
+    Ok(())
+}
+
+/// A kind of fault, and the edits of the base study that give it, with brackets round its place.
+type Refusal<'a> = (StudyKind, &'a [(&'a str, &'a str)]);
+
+fn assert_refused(
+    rt: &impl Abort,
+    alloc: Global,
+    text: Vec<u8>,
+    kind: StudyKind,
+    from: u32,
+    to: u32,
+) -> Result<(), Fail> {
+    let left = run(alloc, &["-i", "s1.in"], Given::of(text), 1000)?;
+    assert_eq!(rt; left.status, refused(kind, from, to));
+    let line = format!(in alloc; "dakota: study refused: {kind:?} at bytes {from}..{to}\n")?;
+    assert_eq!(rt; left.out.taken(), line.as_bytes());
+    assert_eq!(rt; left.table.name().len(), 0);
+    Ok(())
+}
+
+/// A text that says no study is refused for its first fault, at its place, and nothing is evaluated.
+#[test]
+fn other_texts_are_refused_at_their_place(rt: HostRuntime) -> Result<(), Fail> {
+    let alloc = rt.alloc();
+    let cases: [Refusal; 8] = [
+        (StudyKind::MissingBlock, &[(BASE, "")]),
+        (
+            StudyKind::UnknownKeyword,
+            &[("num_steps = 2", "[numsteps] = 2")],
+        ),
+        (StudyKind::OpenString, &[("'x1' 'x2'", "'x1' ['x2]")]),
+        (
+            StudyKind::BadWhole,
+            &[("num_steps = 2", "num_steps = [10001]")],
+        ),
+        (StudyKind::BadNumber, &[("0.5 0.5", "0.5 [1e401]")]),
+        (
+            StudyKind::WrongCount,
+            &[("step_vector = 0.5 0.5", "[step_vector] = 1 1 1")],
+        ),
+        (StudyKind::Unsupported, &[("'rosenbrock'", "['other']")]),
+        (StudyKind::OffGrid, &[("0.5 0.5", "1e20 [1e-20]")]),
+    ];
+    for (kind, edits) in cases {
+        let (text, from, to) = unmarked(alloc, &edited(alloc, edits)?)?;
+        assert_refused(&rt, alloc, text, kind, from, to)?;
+    }
+    let long = vec![in alloc; b'#'; 1_048_577]?;
+    assert_refused(&rt, alloc, long, StudyKind::TooLong, 0, 0)
+}
+
+/// Studies that aren't evaluated so far are refused as unsupported, at the text's beginning.
+#[test]
+fn studies_that_are_not_built_are_refused(rt: HostRuntime) -> Result<(), Fail> {
+    let alloc = rt.alloc();
+    let vector = "vector_parameter_study\n    num_steps = 2\n    step_vector = 0.5 0.5";
+    let list = "list_parameter_study list_of_points = 0 0 1 1";
+    let cases: [&[(&str, &str)]; 4] = [
+        &[(vector, list)],
+        &[("step_vector = 0.5 0.5", "final_point = 1 1")],
+        &[("'rosenbrock'\n    direct", "'simulate -v' fork")],
+        &[("direct", "direct failure_capture retry = 2")],
+    ];
+    for edits in cases {
+        let text = edited(alloc, edits)?;
+        assert_refused(&rt, alloc, text, StudyKind::Unsupported, 0, 0)?;
     }
     Ok(())
 }
@@ -196,7 +303,7 @@ fn faults_of_the_outside_are_told(rt: HostRuntime) -> Result<(), Fail> {
     let left = run(alloc, &["-i", "s1.in"], Given::failing(alloc), 1000)?;
     assert_eq!(rt; left.status, Status::SourceFault);
     assert_eq!(rt; left.out.taken(), "dakota: study not readable\n".as_bytes());
-    let text = study_text(alloc, "2", "0.5 0.5", "0 0")?;
+    let text = edited(alloc, &[])?;
     let left = run(alloc, &["-i", "s1.in"], Given::of(text), 10)?;
     assert_eq!(rt; left.status, Status::SinkFault(Which::Table));
     assert_eq!(rt; left.table.taken(), "%eval_id i".as_bytes());
@@ -211,7 +318,7 @@ fn statuses_have_their_codes(rt: HostRuntime) {
         (Status::Finished, 0),
         (Status::Aborted, 1),
         (Status::Usage { at: 1 }, 2),
-        (refused(StudyKind::OffGrid), 3),
+        (refused(StudyKind::OffGrid, 7, 9), 3),
         (Status::SourceFault, 4),
         (Status::SinkFault(Which::Out), 9),
         (Status::NoMemory, 10),

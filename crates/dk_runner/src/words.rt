@@ -1,24 +1,36 @@
 // The words of the command line.
-ghost use Rattle.std.specs.Prelude.{◌≡◌, map, string_bytes};
-ghost use Rattle.dk_runner.specs.Words.{usage_fault, is_file as is_file_lem};
+ghost use Rattle.std.specs.Prelude.{◌≡◌, ◌+◌, ◌<◌, length, map, string_bytes, Some};
+ghost use Rattle.std.specs.List.{slice_get};
+ghost use Rattle.std.specs.Option.{option_map};
+ghost use Rattle.dk_runner.specs.Words.{CommandRead, run_fault, check_fault, is_file as is_file_lem, option_of as option_of_lem, takes_file as takes_file_lem};
+ghost use Rattle.dk_runner.specs.Sorting.{place_in, with_place as with_place_lem, IsSorted, HasSorted, HasOptions};
 
-/// The place of the first fault of the words, counted from 1; none where they are those of a run.
-pub fn usage(words: &[String]) -> Option<u32>
-    ensures { result ≡ usage_fault (map string_bytes words.now) }
-{
-    let Some(option) = words.first() else {
-        return Some(1);
-    };
-    if option.as_str() != "-i" {
-        return Some(1);
-    }
-    let Some(file) = words.get(1) else {
-        return Some(2);
-    };
-    if !is_file(file.as_bytes()) {
-        return Some(2);
-    }
-    if words.len() > 2 { Some(3) } else { None }
+use crate::{Command, CommandFault};
+use dk_types::Text;
+use std::alloc::Global;
+
+/// An option of the command line.
+#[derive(Clone, Copy, Debug, PartialEq, Eq)]
+pub enum OptionName {
+    /// `-i FILE` or `-input FILE`.
+    Input,
+    /// `-check`.
+    Check,
+}
+
+/// How many words stand before a place, and the places of the options among them, counted from 1.
+#[derive(Clone, Copy)]
+pub struct Found {
+    pub count: u32,
+    pub input: Option<u32>,
+    pub check: Option<u32>,
+}
+
+/// The places of the options of words without a fault.
+#[derive(Clone, Copy)]
+pub struct Options {
+    pub input: u32,
+    pub check: Option<u32>,
 }
 
 /// Whether this may be a file's name.
@@ -28,5 +40,155 @@ fn is_file(name: &[u8]) -> bool
     match name {
         [] => false,
         [first, ..] => *first != b'-',
+    }
+}
+
+/// The option that a word is.
+fn option_of(word: &str) -> Option<OptionName>
+    ensures { result ≡ option_of_lem word.now }
+{
+    match word {
+        "-i" | "-input" => Some(OptionName::Input),
+        "-check" => Some(OptionName::Check),
+        _ => None,
+    }
+}
+
+/// Whether an option needs a FILE.
+fn takes_file(option: OptionName) -> bool
+    ensures { result ≡ takes_file_lem option }
+{
+    matches!(option, OptionName::Input)
+}
+
+impl Found {
+    /// The place of an option.
+    fn place_of(&self, option: OptionName) -> Option<u32>
+        ensures { result ≡ place_in self.now option }
+    {
+        match option {
+            OptionName::Input => self.input,
+            OptionName::Check => self.check,
+        }
+    }
+
+    /// With an option more, which stands behind these words and has so many words itself.
+    fn with(&self, option: OptionName, at: u32, count: u32) -> Found
+        ensures { result ≡ with_place_lem self.now option at count }
+    {
+        match option {
+            OptionName::Input => Found {
+                count,
+                input: Some(at),
+                check: self.check,
+            },
+            OptionName::Check => Found {
+                count,
+                input: self.input,
+                check: Some(at),
+            },
+        }
+    }
+}
+
+/// The word behind so many.
+fn word_at(words: &[String], index: u32) -> Option<&str>
+    ensures { option_map (λ w. w.now) result ≡ slice_get (map string_bytes words.now) index }
+{
+    match words.get(index as usize) {
+        Some(word) => Some(word.as_str()),
+        None => None,
+    }
+}
+
+/// The words one piece further, or the place of the piece's fault.
+fn step(words: &[String], word: &str, found: Found) -> Result<Found, u32>
+    requires here { slice_get (map string_bytes words.now) found.count ≡ Some word.now }
+    requires sorted { IsSorted (map string_bytes words.now) found }
+    ensures { HasSorted (map string_bytes words.now) found result }
+{
+    let at = found.count + 1;
+    let Some(option) = option_of(word) else {
+        return Err(at);
+    };
+    if found.place_of(option).is_some() {
+        return Err(at);
+    }
+    if !takes_file(option) {
+        return Ok(found.with(option, at, at));
+    }
+    match word_at(words, at) {
+        Some(file) if is_file(file.as_bytes()) => Ok(found.with(option, at, at + 1)),
+        _ => Err(at + 1),
+    }
+}
+
+/// The places of the options, or that of the first fault. An option stands but once before a fault, so that the places
+/// are small however many the words.
+fn find_options(words: &[String]) -> Result<Options, u32>
+    ensures { HasOptions (map string_bytes words.now) result }
+{
+    let mut found = Found {
+        count: 0,
+        input: None,
+        check: None,
+    };
+    while let Some(word) = word_at(words, found.count) {
+        match step(words, word, found) {
+            Ok(next) => found = next,
+            Err(at) => return Err(at),
+        }
+    }
+    match found.input {
+        Some(input) => Ok(Options {
+            input,
+            check: found.check,
+        }),
+        None => Err(found.count + 1),
+    }
+}
+
+/// Where the words aren't those of a run: the place of their first fault, or else of `-check`.
+pub fn usage_of_run(words: &[String]) -> Option<u32>
+    ensures { result ≡ run_fault (map string_bytes words.now) }
+{
+    match find_options(words) {
+        Ok(options) => options.check,
+        Err(at) => Some(at),
+    }
+}
+
+/// Where the words aren't those of a check: the place of their first fault, or else of `-i` or `-input`.
+pub fn usage_of_check(words: &[String]) -> Option<u32>
+    ensures { result ≡ check_fault (map string_bytes words.now) }
+{
+    match find_options(words) {
+        Ok(options) => match options.check {
+            Some(_) => None,
+            None => Some(options.input),
+        },
+        Err(at) => Some(at),
+    }
+}
+
+/// Reads the words of the command line.
+///
+/// They are `-i FILE` or `-input FILE`, which each command needs, and `-check`, in any order and each once. A FILE isn't
+/// empty and doesn't begin with `-`. The first fault is answered: a word that is no option where one is due, an option for
+/// the second time in either spelling, a word that is no FILE in the place of one, or one past the last word, where a FILE
+/// is missing or no study is named. `each_command_or_place` says that words have just one command or just one first fault.
+pub fn command(alloc: Global, words: &[String]) -> Result<Command, CommandFault>
+    ensures { CommandRead (map string_bytes words.now) result }
+{
+    let options = match find_options(words) {
+        Ok(options) => options,
+        Err(at) => return Err(CommandFault::Usage { at }),
+    };
+    let Ok(input) = Text::of(alloc, words[options.input as usize].as_str()) else {
+        return Err(CommandFault::NoMemory);
+    };
+    match options.check {
+        Some(_) => Ok(Command::Check { input }),
+        None => Ok(Command::Run { input }),
     }
 }

@@ -171,34 +171,3 @@ impl Bench for Idle {
         Err(fault(&mut self.faults))
     }
 }
-
-/// The text of a study with these numbers.
-pub fn study_text(
-    alloc: Global,
-    steps: &str,
-    step: &str,
-    initial: &str,
-) -> Result<Vec<u8>, AllocError> {
-    let text = format!(in alloc;
-        "environment
-  tabular_data
-    tabular_data_file = 't.dat'
-method
-  vector_parameter_study
-    num_steps = {steps}
-    step_vector = {step}
-variables
-  continuous_design = 2
-    initial_point = {initial}
-    descriptors = 'x1' 'x2'
-interface
-  analysis_drivers = 'rosenbrock'
-    direct
-responses
-  objective_functions = 1
-  no_gradients
-  no_hessians
-"
-    )?;
-    Vec::from_slice(alloc, text.as_bytes())
-}

@@ -1,0 +1,47 @@
+// The studies that are evaluated so far.
+ghost use Rattle.std.specs.Prelude.{◌≡◌};
+ghost use Rattle.dk_runner.specs.Accepted.{is_built as is_built_lem, is_built_method as is_built_method_lem, is_built_driver as is_built_driver_lem, is_built_rule as is_built_rule_lem};
+
+use dk_types::{Driver, FailRule, Method, Study, Way};
+
+/// Whether a study is one of those that are evaluated so far.
+pub fn is_built(study: &Study) -> bool
+    ensures { result ≡ is_built_lem study.now }
+{
+    is_built_method(&study.method)
+        && is_built_driver(&study.interface.driver)
+        && is_built_rule(&study.interface.rule)
+}
+
+/// Whether a method is a vector study with a step.
+fn is_built_method(method: &Method) -> bool
+    ensures { result ≡ is_built_method_lem method.now }
+{
+    match method {
+        Method::Vector {
+            steps: _,
+            way: Way::Step(_),
+        } => true,
+        _ => false,
+    }
+}
+
+/// Whether points are evaluated by the program's own function.
+fn is_built_driver(driver: &Driver) -> bool
+    ensures { result ≡ is_built_driver_lem driver.now }
+{
+    match driver {
+        Driver::Direct => true,
+        Driver::Fork { words: _ } => false,
+    }
+}
+
+/// Whether an evaluation without a value ends the study.
+fn is_built_rule(rule: &FailRule) -> bool
+    ensures { result ≡ is_built_rule_lem rule.now }
+{
+    match rule {
+        FailRule::Abort => true,
+        FailRule::Retry(_) | FailRule::Recover(_) => false,
+    }
+}
