@@ -17,7 +17,8 @@ pub struct FileSource<'a, R: Files> {
 
 impl<'a, R: Files> FileSource<'a, R> {
     pub fn new(files: &'a R, path: &'a str) -> FileSource<'a, R>
-        ensures { result.faults ≡ 0 }
+        ensures faults { result.faults ≡ 0 }
+        ensures path { result.path.now ≡ path.now }
     {
         FileSource {
             files,
