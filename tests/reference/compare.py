@@ -2,270 +2,72 @@
 """Runs the program and the reference on studies and command lines from a seed, and compares what both do.
 
     compare.py PROGRAM REFERENCE [--cases N] [--seed S] [--jobs J] [--keep FOLDER]
+    compare.py --alone REFERENCE [--cases N] [--seed S] [--jobs J]
 
-Each case runs in two scratch folders that begin alike. Compared are standard output, the exit status, and the files
-that are in the folder then, byte for byte. Nothing may come on standard error, and no table may be made or changed
-where the status is 2, 3 or 4. With --keep, the folder of a case that differs is kept there, with a file `words`.
-The exit status is 1 where a case differs.
+Each study is checked, and run where it is accepted; some of the others are run too. Each such command runs in two scratch
+folders that begin alike. Compared are standard output, the exit status, and the files that are in the folder then, byte
+for byte. Nothing may come on standard error, and no file may be made or changed by a check, or where the status is 2, 3
+or 4. With --keep, the folders of a case that differs are kept there, with a file `words`. With --alone, only the reference
+runs. At the end it is told how many cases had each status and each kind of refusal; a study that is accepted and doesn't
+run so far counts as `not run`. The exit status is 1 where a case differs.
 """
 import argparse
 import collections
 import concurrent.futures
 import os
 import random
+import re
 import shutil
 import subprocess
 import sys
 import tempfile
 
-FORM = (
-    "environment tabular_data tabular_data_file = 't.dat' "
-    "method vector_parameter_study num_steps = {} step_vector = {} {} "
-    "variables continuous_design = 2 initial_point = {} {} descriptors = 'x1' 'x2' "
-    "interface analysis_drivers = 'rosenbrock' direct "
-    "responses objective_functions = 1 no_gradients no_hessians"
-)
-TEXT_LIMIT = 1_048_576
+from form_texts import form_text
+from study_texts import whole_study_text
+
 SECONDS = 120
-WRONG_NUMBERS = (
-    "+ - . +. -.e1 e e1 E5 1e 1e+ 1e- 1.e .e1 1..2 1.2.3 --1 +-1 1+ 1- 1e5.0 1e1e1 1e--1 1e+-1 0x10 1_000 1,5 1f 1d0 "
-    "inf nan Infinity NaN -inf 1/2 (1) '1' 1% $1 1; 1\0 \0 \x0b1 1\x0c \u0661 \uff11 1\u00a0 \u22121 \ufeff1 ½"
-).split(" ")
-WRONG_COUNTS = "+5 -5 -0 5.0 5. .5 1e1 5e0 0x5 five 5_0 5, '5' 10001 99999 010001 18446744073709551616 ٣ 5\0".split(" ")
-
-
-# Numbers' texts
-
-
-def spelled(random, mantissa, exponent):
-    """A text of mantissa * 10**exponent, with zeros, a point and an exponent where chance puts them."""
-    sign = "-" if mantissa < 0 else random.choice(["", "", "", "+"])
-    if mantissa == 0:
-        sign = random.choice(["", "", "+", "-"])
-        exponent = random.choice([0, 0, exponent, 99999, -99999, 10**30, -(10**30)])
-    zeros = random.choice([0, 0, 0, 1, 2, random.randrange(40)])
-    digits = str(abs(mantissa)) + "0" * zeros
-    exponent -= zeros
-    way = random.randrange(4)
-    if way == 0 and 0 <= exponent < 60:
-        digits += "0" * exponent
-        exponent = 0
-    point = random.randrange(len(digits) + 1)
-    if way == 1 and -60 < exponent < 0:
-        digits = digits.rjust(random.choice([1, 0]) - exponent, "0")
-        point = len(digits) + exponent
-    elif way == 2:
-        point = len(digits)
-    digits = "0" * random.choice([0, 0, 0, 1, random.randrange(40)]) + digits[:point] + "." + digits[point:]
-    exponent += len(digits) - digits.index(".") - 1
-    if digits.endswith(".") and len(digits) > 1 and random.random() < 0.7:
-        digits = digits[:-1]
-    if exponent or random.random() < 0.1:
-        shown = str(abs(exponent)).rjust(random.choice([1, 1, 2, 3, 9]), "0")
-        plus = random.choice(["", "+"]) if exponent > 0 else random.choice(["", "+", "-"])
-        digits += random.choice("eE") + ("-" if exponent < 0 else plus) + shown
-    return sign + digits
-
-
-def digits_of(random, count):
-    """A number of so many digits, with a sign."""
-    number = random.randrange(10 ** (count - 1), 10**count)
-    return random.choice([number, number, -number])
-
-
-def limit_text(random):
-    """A number's text at a limit: of its digits, of its exponent, or of its length."""
-    many = random.choice([100, 400, 401, 5000, 100000])
-    return random.choice(
-        [
-            spelled(random, digits_of(random, random.choice([33, 34, 35, 36])), random.randrange(-40, 10)),
-            spelled(random, digits_of(random, random.choice([1, 2, 34])), random.choice([-435, -401, -400, 366, 399, 400, 401])),
-            f"{random.choice(['1', '9', '10', '0.1', '.01'])}e{random.choice([398, 399, 400, 401, 402, -398, -399, -400, -401])}",
-            f"{random.choice(['1', '25'])}e{random.choice([9998, 9999, 10000, -9998, -9999, -10000, 2**31, 2**63, -(2**64)])}",
-            "1" + "0" * random.choice([399, 400, 401, 9999, many]),
-            "0." + "0" * random.choice([398, 399, 400, many]) + "1",
-            "0" * many + str(random.randrange(100)),
-            f"1.{'0' * many}",
-            f"{'0' * many}1{'0' * 300}e-{random.choice([290, 300, 310])}",
-            f"0.{'0' * many}5e{many}",
-            f"{'7' * 34}{'0' * random.choice([0, 1, many])}e-{random.choice([0, 20, 34, many])}",
-            "1e" + "0" * many + "3",
-            "1e-" + "9" * many,
-            "0e" + "9" * many,
-            "-0." + "0" * many,
-        ]
-    )
-
-
-def nice(random):
-    """Four numbers of few digits."""
-    return [(random.choice([0, digits_of(random, random.choice([1, 1, 2, 3]))]), random.randrange(-3, 1)) for _ in range(4)]
-
-
-def graded(random):
-    """Four numbers about as far apart as a unit allows."""
-    top = random.choice([0, 0, 5, -5, 400, -372, 372, random.randrange(-372, 401)])
-    numbers = []
-    for _ in range(4):
-        count = random.choice([1, 2, 8, 20, 28, 29, 30])
-        first = top - random.choice([0, 0, 1, random.randrange(30)])
-        numbers.append((digits_of(random, count), first - count + 1))
-    return numbers
-
-
-def near_abortion(random):
-    """Four numbers whose points come to the limit of a value's digits."""
-    counts = [6, 7, 8, 8, 9, 17]
-    scale = random.randrange(-9, 1)
-    return [(digits_of(random, random.choice(counts)), scale + random.choice([0, 0, -1])) for _ in range(4)]
-
-
-def small_value(random):
-    """Points about (1, 1), where the value is very small, or zero."""
-    by = random.randrange(1, 17)
-    step = random.choice([0, 1, -1])
-    return [(0, 0), (step, -by), (1, 0), (10**by + random.choice([0, 1, -1, 3]), -by)]
-
-
-def great_value(random):
-    """Points whose value is very great."""
-    by, far = random.randrange(8), random.randrange(17)
-    x1 = 1 - 10**by
-    return [(0, 0), (random.choice([0, 10**far]), 0), (x1, 0), (x1 * x1 + 10**far, 0)]
-
-
-def small_numbers(random):
-    """Points near zero, which are written with an exponent."""
-    return [(digits_of(random, 1), -random.randrange(5, 11)) for _ in range(2)] + [
-        (random.choice([0, digits_of(random, 1)]), -random.randrange(5, 11)) for _ in range(2)
-    ]
-
-
-def zeros(random):
-    """No step, or none in one direction."""
-    numbers = nice(random)
-    for at in random.choice([(0,), (1,), (0, 1), (0, 1), (0, 1, 2, 3), (2, 3)]):
-        numbers[at] = (0, 0)
-    return numbers
-
-
-FAMILIES = [nice, nice, graded, near_abortion, near_abortion, small_value, great_value, small_numbers, zeros]
-
-
-def count_text(random):
-    """A text of num_steps."""
-    steps = random.choice([0, 1, 2, random.randrange(41), random.randrange(41), random.randrange(41)])
-    if random.random() < 0.03:
-        steps = random.choice([9999, 10000, random.randrange(10001)])
-    return "0" * random.choice([0, 0, 0, 0, 1, 30]) + str(steps)
-
-
-# Texts of studies
-
-
-def pieces_of(random):
-    """The pieces of a study, most often of one that is read."""
-    numbers = [spelled(random, *it) for it in random.choice(FAMILIES)(random)]
-    count = count_text(random)
-    chance = random.random()
-    if chance < 0.12:
-        numbers[random.randrange(4)] = limit_text(random)
-    elif chance < 0.2:
-        numbers[random.randrange(4)] = random.choice(WRONG_NUMBERS)
-    elif chance < 0.25:
-        count = random.choice(WRONG_COUNTS)
-    elif chance < 0.27:
-        count = "0" * random.choice([100, 5000]) + random.choice(["", "7", "10000", "10001"]) or "0"
-    elif chance < 0.29:
-        count = "1" * random.choice([6, 100, 5000])
-    return FORM.format(count, *numbers).split(" ")
-
-
-def altered(random, pieces):
-    """Pieces that differ in one place, or end early or late."""
-    at = random.randrange(len(pieces))
-    piece = pieces[at]
-    way = random.randrange(9)
-    if way == 0:
-        del pieces[at]
-    elif way == 1:
-        pieces.insert(at, random.choice([piece, "0", "=", "no_gradients", "#", "x"]))
-    elif way == 2:
-        other = random.randrange(len(pieces))
-        pieces[at], pieces[other] = pieces[other], piece
-    elif way == 3:
-        pieces[at] = random.choice([piece.upper(), piece.capitalize(), piece[:-1], piece + piece[-1], piece[1:], f"'{piece}'"])
-    elif way == 4:
-        del pieces[at:]
-    elif way == 5:
-        pieces += random.choice([["0"], ["no_hessians"], ["output", "silent"], ["#", "end"], ["\0"]])
-    elif way == 6:
-        pieces[at] = piece.replace("'", '"').replace("t.dat", "u.dat")
-    elif way == 7:
-        pieces[at : at + 2] = ["".join(pieces[at : at + 2])]
-    else:
-        pieces[at] = piece + random.choice(["\x0b", "\x0c", "\0", "\u00a0", "\u0085", "\u2003", "\x1c", ",", "#"])
-    return [it for it in pieces if it]
-
-
-def joined(random, pieces):
-    """The pieces between white space of some kind."""
-    kinds = random.choice([[" "], ["\n"], ["\t"], ["\r\n"], ["\r"], [" ", "\n"], [" ", "\t", "\n", "\r", "  ", "\n\n", "\r\n", " \t \n"]])
-    text = random.choice(["", "", "\n", "  ", "\t\r\n "])
-    for piece in pieces:
-        text += piece + random.choice(kinds)
-    return text if random.random() < 0.6 else text.rstrip()
-
-
-def padded(random, text):
-    """White space somewhere, up to a length about the greatest that is read."""
-    wanted = TEXT_LIMIT + random.choice([-1, 0, 0, 1, 1, 4096, TEXT_LIMIT])
-    places = [at for at, byte in enumerate(text) if byte in b" \t\r\n"] or [0]
-    at = random.choice([0, len(text), random.choice(places)])
-    return text[:at] + random.choice([b" ", b"\n", b"\t"]) * max(0, wanted - len(text)) + text[at:]
-
-
-def study_text(random):
-    """The bytes of a study's file."""
-    pieces = pieces_of(random)
-    if random.random() < 0.12:
-        pieces = altered(random, pieces)
-    text = joined(random, pieces).encode("utf-8", "surrogatepass")
-    chance = random.random()
-    if chance < 0.01:
-        text = random.choice([b"", b" ", b"\n\n", b"\0", b"\xff\xfe", random.randbytes(300)])
-    elif chance < 0.03:
-        at = random.randrange(len(text) + 1)
-        text = random.choice([text[:at], text[at:], text[:at] + random.randbytes(1) + text[at + 1 :], text + text])
-    elif chance < 0.045:
-        text = padded(random, text)
-    return text
+STUDY_NAMES = [b"s.in", b"s.in", b"s.in", b"a b.in", "größe.in".encode(), b"'t.dat'", b"new\nline", b"sub/s.in", b"./s.in", b"t.dat"]
+NO_STUDIES = [b"none", b"sub", b"sub/none", b"s.in/x", b".", b" ", b"n" * 300, b"\xc3\xa9.in"]
+LONELY_WORDS = ([b"--help"], [b"--version"])
 
 
 # Cases
 
 
 class Case:
-    """A folder as it is before a run, and the words of the run."""
+    """A folder as it is before a command, and the commands: the words of each."""
 
     def __init__(self, random):
-        name = random.choice([b"s.in", b"s.in", b"a b.in", "größe.in".encode(), b"'t.dat'", b"new\nline", b"sub/s.in", b"./s.in", b"t.dat"])
-        self.files = {name: study_text(random)}
-        self.folders = [b"sub"]
-        self.words = [b"-i", name]
+        name = random.choice(STUDY_NAMES)
+        text = form_text(random) if random.random() < 0.25 else whole_study_text(random)
+        self.files, self.folders = {name: text}, [b"sub"]
+        self.check, self.run = self.right_words(random, name)
+        self.is_run_anyhow = random.random() < 0.2
         chance = random.random()
-        if chance < 0.06:
-            self.words = self.wrong_words(random, name)
-        elif chance < 0.08:
-            self.words = [b"-i", random.choice([b"none", b"sub", b"sub/none", b"s.in/x", b".", b" ", b"n" * 300, b"\xc3\xa9.in"])]
-            self.files.pop(self.words[1], None)
-        elif chance < 0.09 and name != b"t.dat":
+        if chance < 0.07:
+            self.check, self.run = self.wrong_words(random, name), None
+        elif chance < 0.085:
+            self.check, self.run = self.right_words(random, random.choice(NO_STUDIES))
+            self.files.pop(self.run[1], None)
+        elif chance < 0.1 and name != b"t.dat":
             self.folders.append(b"t.dat")
-        if random.random() < 0.2 and b"t.dat" not in self.folders:
-            self.files.setdefault(b"t.dat", random.choice([b"", b"before\n", b"x" * 100000]))
+        older = random.choice([b"t.dat", b"t.dat", b"dakota_tabular.dat", b"a b.dat"])
+        if random.random() < 0.2 and older not in self.folders:
+            self.files.setdefault(older, random.choice([b"", b"before\n", b"x" * 100000]))
+
+    @staticmethod
+    def right_words(random, name):
+        """The words of a check and of a run."""
+        run = [random.choice([b"-i", b"-i", b"-input"]), name]
+        return random.choice([[b"-check", *run], [*run, b"-check"]]), run
 
     @staticmethod
     def wrong_words(random, name):
+        """Words that are mostly wrong."""
+        if random.random() < 0.5:
+            some = [b"-i", b"-i", b"-input", b"-check", b"-check", name, name, b"", b"-x", b"--help", b"--version", b"-Check", b"check"]
+            words = random.choices(some, k=random.randrange(6))
+            return words if words not in LONELY_WORDS else []
         return random.choice(
             [
                 [],
@@ -289,7 +91,19 @@ class Case:
                 [b"-ii", name],
                 [b"-", name],
                 [b"--i", name],
-                [b"-input", name],
+                [b"-Input", name],
+                [b"-inputs", name],
+                [b"-check"],
+                [b"-check", b"-i"],
+                [b"-i", b"-check"],
+                [b"-i", b"-check", name],
+                [b"-check", name, b"-i"],
+                [b"-check", b"-check", b"-i", name],
+                [b"-i", name, b"-input", name],
+                [b"-check", b"-i", name, b"--help"],
+                [b"--help", b"--help"],
+                [b"--version", b"-i", name],
+                [b"-check", b"\xff", b"-i", name],
                 [b"-i" + name],
                 [b"-i=" + name],
                 [name],
@@ -323,12 +137,15 @@ def found(folder):
     return files
 
 
-def ran(program, case, folder):
-    """What a run of the case prints, its status, and the files that are there before and after it."""
+# Commands
+
+
+def ran(program, case, words, folder):
+    """What a command of the case prints, its status, and the files that are there before and after it."""
     case.lay(folder)
     before = found(folder)
-    command = [sys.executable, program] if program.endswith(".py") else [program]
-    done = subprocess.run(command + case.words, cwd=folder, stdin=subprocess.DEVNULL, capture_output=True, timeout=SECONDS)
+    command = [sys.executable, "-S", program] if program.endswith(".py") else [program]
+    done = subprocess.run(command + words, cwd=folder, stdin=subprocess.DEVNULL, capture_output=True, timeout=SECONDS)
     return done.stdout, done.returncode, before, found(folder), done.stderr
 
 
@@ -336,8 +153,8 @@ def shown(text, most=300):
     return repr(text if len(text) <= most else text[:most] + b"..")
 
 
-def faults(case, ours, theirs):
-    """What is wrong with two runs of a case."""
+def faults(words, ours, theirs):
+    """What is wrong with two runs of a command."""
     (said, status, before, after, errors), (their_said, their_status, _, their_after, their_errors) = ours, theirs
     wrong = []
     if status != their_status:
@@ -349,52 +166,96 @@ def faults(case, ours, theirs):
             one, other = after.get(name) or b"", their_after.get(name) or b""
             at = next((it for it, (a, b) in enumerate(zip(one, other)) if a != b), min(len(one), len(other)))
             wrong.append(f"file {name}: from byte {at} {shown(one[at:at + 80])}, and {shown(other[at:at + 80])} by the reference")
-    if status in (2, 3, 4) and after != before:
+    if (status in (2, 3, 4) or b"-check" in words) and after != before:
         wrong.append(f"files changed under status {status}")
     if errors or their_errors:
         wrong.append(f"standard error {shown(errors)}, and {shown(their_errors)} by the reference")
     return wrong
 
 
-def tried(number, arguments, scratch):
-    """Runs a case with both programs, and returns the status and what is wrong."""
-    case = Case(random.Random(f"{arguments.seed} {number}"))
-    folders = [os.fsencode(tempfile.mkdtemp(prefix=f"{number}-{it}-", dir=scratch)) for it in ("program", "reference")]
-    try:
-        runs = [ran(program, case, folder) for program, folder in zip((arguments.program, arguments.reference), folders)]
-        wrong, status = faults(case, *runs), runs[1][1]
-    except subprocess.TimeoutExpired as late:
-        wrong, status = [f"no end within {SECONDS} seconds: {late.cmd[0]}"], None
-    if wrong and arguments.keep:
-        for folder in folders:
-            shutil.copytree(folder, os.path.join(os.fsencode(arguments.keep), os.path.basename(folder)), dirs_exist_ok=True)
-        case_folder = os.path.join(arguments.keep, f"{number}")
-        os.makedirs(case_folder, exist_ok=True)
-        case.lay(os.fsencode(tempfile.mkdtemp(dir=case_folder)))
-        with open(f"{case_folder}/words", "wb") as it:
-            it.write(b"\0".join(case.words))
+def kind_of(said):
+    """What a command's first line says of the study, in short; or none."""
+    refused = re.match(rb"dakota: study refused: (\w+) at bytes (.*)", said)
+    if refused:
+        return "not run" if refused.groups() == (b"Unsupported", b"0..0") else refused[1].decode()
+    accepted = re.match(rb"study accepted|<<<<< Study (finished|aborted)", said)
+    return accepted[0].decode().removeprefix("<<<<< Study ").removeprefix("study ") if accepted else None
+
+
+def compared(case, words, folders, arguments):
+    """Runs a command with both programs, and returns what the reference did, and what is wrong."""
+    theirs = ran(arguments.reference, case, words, folders[1])
+    wrong = ["standard error by the reference"] if theirs[4] else []
+    if arguments.program:
+        wrong = faults(words, ran(arguments.program, case, words, folders[0]), theirs)
+    return theirs, wrong
+
+
+def keep(case, words, folders, number, arguments):
+    """Keeps the folders of a command, the case as it was, and its words."""
     for folder in folders:
-        shutil.rmtree(folder)
-    return number, status, case.words, wrong
+        shutil.copytree(folder, os.path.join(os.fsencode(arguments.keep), os.path.basename(folder)), dirs_exist_ok=True)
+    case_folder = os.path.join(arguments.keep, f"{number}-{'check' if words is case.check else 'run'}")
+    os.makedirs(case_folder, exist_ok=True)
+    case.lay(os.fsencode(tempfile.mkdtemp(dir=case_folder)))
+    with open(f"{case_folder}/words", "wb") as it:
+        it.write(b"\0".join(words))
 
 
-def main():
+def tried(number, arguments, scratch):
+    """Goes through the commands of a case, and returns the statuses, the kinds, and what is wrong with which words."""
+    case = Case(random.Random(f"{arguments.seed} {number}"))
+    statuses, kinds, all_wrong = set(), set(), []
+    for words in (case.check, case.run):
+        if words is None or (words is case.run and statuses != {0} and not case.is_run_anyhow):
+            continue
+        folders = [os.fsencode(tempfile.mkdtemp(prefix=f"{number}-{it}-", dir=scratch)) for it in ("program", "reference")]
+        try:
+            (said, status, *_), wrong = compared(case, words, folders, arguments)
+            statuses.add(status)
+            kinds.add(kind_of(said))
+        except subprocess.TimeoutExpired as late:
+            wrong = [f"no end within {SECONDS} seconds: {late.cmd[0]}"]
+        all_wrong += [(words, it) for it in wrong]
+        if wrong and arguments.keep:
+            keep(case, words, folders, number, arguments)
+        for folder in folders:
+            shutil.rmtree(folder)
+    return number, statuses, kinds - {None}, all_wrong
+
+
+def read_arguments():
     parser = argparse.ArgumentParser(description=__doc__.split("\n")[0])
-    parser.add_argument("program", type=os.path.abspath)
+    parser.add_argument("program", type=os.path.abspath, nargs="?")
     parser.add_argument("reference", type=os.path.abspath)
+    parser.add_argument("--alone", action="store_true")
     parser.add_argument("--cases", type=int, default=3000)
     parser.add_argument("--seed", type=int, default=1)
     parser.add_argument("--jobs", type=int, default=os.cpu_count())
     parser.add_argument("--keep", type=os.path.abspath)
     arguments = parser.parse_args()
-    statuses, different = collections.Counter(), 0
+    if arguments.alone == bool(arguments.program):
+        parser.error("either a program and the reference, or --alone and the reference")
+    return arguments
+
+
+def counted(counts):
+    return ", ".join(f"{it} {count}" for it, count in sorted(counts.items(), key=lambda it: str(it[0])))
+
+
+def main():
+    arguments = read_arguments()
+    all_statuses, all_kinds, different = collections.Counter(), collections.Counter(), 0
     with tempfile.TemporaryDirectory() as scratch, concurrent.futures.ThreadPoolExecutor(arguments.jobs) as pool:
-        for number, status, words, wrong in pool.map(lambda it: tried(it, arguments, scratch), range(arguments.cases)):
-            statuses[status] += 1
+        for number, statuses, kinds, wrong in pool.map(lambda it: tried(it, arguments, scratch), range(arguments.cases)):
+            all_statuses.update(statuses)
+            all_kinds.update(kinds)
             different += bool(wrong)
-            for it in wrong:
-                print(f"case {number} of seed {arguments.seed}, words {words}: {it}")
-    print(f"{arguments.cases} cases, by status {dict(sorted(statuses.items(), key=str))}: {different} differ")
+            for words, it in wrong:
+                print(f"case {number} of seed {arguments.seed}, words {words}: {it}", flush=True)
+    print(f"statuses: {counted(all_statuses)}")
+    print(f"kinds: {counted(all_kinds)}")
+    print(f"{arguments.cases} cases: {different} differ")
     return 1 if different else 0
 
 
