@@ -1,5 +1,6 @@
 #!/bin/sh
-# Compares the proved program with the same study in Python and in C: run.sh [RUNS]. README.md beside it says more.
+# Compares the proved program with Python and C on one study that it runs, and with Python on one that it reads: run.sh
+# [RUNS]. README.md beside it says more.
 here=$(CDPATH='' cd -P -- "$(dirname -- "$0")" && pwd) || exit 1
 runs=${1:-11}
 if ! command -v python3 >/dev/null 2>&1; then
@@ -21,4 +22,6 @@ if command -v gcc >/dev/null 2>&1; then
 else
     echo "bench: gcc isn't on this machine, so the study in C is left out" >&2
 fi
-python3 "$here/measure.py" "$runs" "$scratch" "$here/study.in" "$here/../crates/dakota/out/dakota" "$here/study.py" ${compiled:+"$compiled"}
+python3 "$here/measure.py" "$runs" "$scratch" "$here/study.in" "$here/../crates/dakota/out/dakota" "$here/study.py" ${compiled:+"$compiled"} || exit 1
+python3 "$here/list.py" --make "$scratch/list.in" || exit 1
+python3 "$here/read.py" "$runs" "$scratch/list.in" "$here/../crates/dakota/out/dakota" "$here/list.py"
