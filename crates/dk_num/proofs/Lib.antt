@@ -1,6 +1,7 @@
 pub mod Digits
 pub mod Canonical
 pub mod Powers
+pub mod Quotients
 pub mod Sums
 pub mod Orders
 pub mod Lengths
@@ -19,3 +20,4 @@ pub mod Scaling
 pub mod Endings
 pub mod Values
 pub mod ValueLaws
+pub mod ReadsBack

@@ -4,3 +4,4 @@ pub mod Texts
 pub mod Numbers
 pub mod Reading
 pub mod Units
+pub mod Rounding

@@ -39,3 +39,17 @@ unfoldable pub table_text : Decimal → List ℕ
 table_text d =
     if is_zero d then codes "0"
     else sign_text d.mantissa ++ body_text (decimal (unsigned_abs d.mantissa)) d.exponent (leading d)
+
+-- the digits behind the first, filled with zeros up to 15
+abbrev pub filled : List ℕ → List ℕ
+filled ds = joined (ds ∷ replicate (15 - length ds) 48 ∷ [])
+
+-- the first digit, a point and at least 15 others
+abbrev pub pointed_fully : List ℕ → List ℕ
+pointed_fully ds = joined (take 1 ds ∷ codes "." ∷ filled (drop 1 ds) ∷ [])
+
+-- with a point behind the first digit and an exponent, as in a parameters file; zero is 0.000000000000000e+00
+unfoldable pub sci_text : Decimal → List ℕ
+sci_text d =
+    if is_zero d then pointed_fully (codes "0") ++ exponent_text (pos 0)
+    else sign_text d.mantissa ++ (pointed_fully (decimal (unsigned_abs d.mantissa)) ++ exponent_text (leading d))

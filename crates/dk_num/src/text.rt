@@ -1,7 +1,7 @@
 // The texts of a decimal.
 ghost use Rattle.std.specs.Prelude.{◌≡◌, ◌+◌, ◌-◌, ◌≤◌, ◌<◌, ◌^◌, ◌++◌, [], ◌∷◌, take, drop, replicate, length, codes, ℤ, pos, neg_ℤ, ◌+ℤ◌, ◌-ℤ◌, ◌≤ℤ◌, unsigned_abs, decimal, int_le, nat_lt, ◌&&◌, if◌then◌else◌};
 ghost use Rattle.dk_num.specs.Decimal.{IsCanonical, digit_count};
-ghost use Rattle.dk_num.specs.Texts.{table_text, sign_text, with_point, plain_digits, exponent_text, pointed, body_text, places_text, joined};
+ghost use Rattle.dk_num.specs.Texts.{table_text, sci_text, sign_text, with_point, plain_digits, exponent_text, pointed, pointed_fully, filled, body_text, places_text, joined};
 
 use crate::Dec;
 use crate::line::Line;
@@ -14,6 +14,16 @@ impl Dec {
     {
         let (mantissa, exponent) = self.pair();
         text_of(mantissa, exponent).write(out)
+    }
+
+    /// Writes the text of a parameters file at the front, and answers its length: a point behind the first digit, at
+    /// least 15 digits behind the point and an exponent of at least two digits. Zero is 0.000000000000000e+00.
+    pub fn sci_text(&self, out: &mut [u8; 64]) -> usize
+        ensures text { take result out.new ≡ sci_text self.now }
+        ensures length { result ≤ 42 }
+    {
+        let (mantissa, exponent) = self.pair();
+        sci_of(mantissa, exponent).write(out)
     }
 }
 
@@ -172,6 +182,64 @@ fn is_plain(leading: i32) -> bool
     -6 <= leading && leading <= 33
 }
 
+#[tactic(auto, unfolding(crate::specs::Texts::sci_text))]
+fn sci_of(mantissa: i128, exponent: i32) -> Line
+    requires { IsCanonical (record { mantissa = mantissa; exponent = exponent }) }
+    ensures text { result ≡ sci_text (record { mantissa = mantissa; exponent = exponent }) }
+    ensures short { length result ≤ 42 }
+{
+    let mut line = Line::new();
+    let magnitude = mantissa.unsigned_abs();
+    if magnitude == 0 {
+        put_sci(&mut line, b"0", 0);
+        return line;
+    }
+    let mut buffer = [0; 40];
+    let digits = digits_of(&mut buffer, magnitude);
+    put_sign(&mut line, mantissa);
+    put_sci(&mut line, digits, leading_of(exponent, digits.len()));
+    line
+}
+
+/// The digits with an exponent.
+fn put_sci(line: &mut Line, digits: &[u8], leading: i32)
+    requires sign { length line.old ≤ 1 }
+    requires some { 0 < length digits.now }
+    requires few { length digits.now ≤ 34 }
+    requires near { unsigned_abs leading ≤ 9999 }
+    ensures text { line.new ≡ line.old ++ (pointed_fully digits.now ++ exponent_text leading) }
+    ensures short { length line.new ≤ 42 }
+{
+    put_pointed_fully(line, digits);
+    put_exponent(line, leading);
+}
+
+fn put_pointed_fully(line: &mut Line, digits: &[u8])
+    requires sign { length line.old ≤ 1 }
+    requires some { 0 < length digits.now }
+    requires few { length digits.now ≤ 34 }
+    ensures text { line.new ≡ line.old ++ pointed_fully digits.now }
+    ensures short { length line.new ≤ 36 }
+{
+    line.put(&digits[..1]);
+    line.put(b".");
+    put_filled(line, &digits[1..]);
+}
+
+/// The fewest digits behind the point.
+const FEWEST_DIGITS: usize = 15;
+
+/// The digits, with zeros behind them where they are too few.
+fn put_filled(line: &mut Line, digits: &[u8])
+    requires room { length line.old ≤ 3 }
+    requires few { length digits.now ≤ 33 }
+    ensures text { line.new ≡ line.old ++ filled digits.now }
+    ensures short { length line.new ≤ 36 }
+{
+    line.put(digits);
+    line.put_zeros(FEWEST_DIGITS.saturating_sub(digits.len()));
+}
+
 /// Ten to the power of 16.
 const HALF: u64 = 10_000_000_000_000_000;
 
@@ -262,11 +330,46 @@ mod tests {
         ((5, -10), "5e-10"),
     ];
 
+    // Decimals, and their texts in a parameters file.
+    const SCI_TEXTS: [(Pair, &str); 16] = [
+        ((0, 0), "0.000000000000000e+00"),
+        ((1, 0), "1.000000000000000e+00"),
+        ((12, 2), "1.200000000000000e+03"),
+        ((5, -1), "5.000000000000000e-01"),
+        ((65, -1), "6.500000000000000e+00"),
+        ((-125, -1), "-1.250000000000000e+01"),
+        ((1, 99), "1.000000000000000e+99"),
+        ((-1, 100), "-1.000000000000000e+100"),
+        ((123456789012345, 0), "1.234567890123450e+14"),
+        ((1234567890123456, -16), "1.234567890123456e-01"),
+        ((12345678901234567, -20), "1.2345678901234567e-04"),
+        ((100000000000000001, 0), "1.00000000000000001e+17"),
+        ((7, 9999), "7.000000000000000e+9999"),
+        ((-7, -9999), "-7.000000000000000e-9999"),
+        (
+            (9999999999999999999999999999999999, 9966),
+            "9.999999999999999999999999999999999e+9999",
+        ),
+        (
+            (-9999999999999999999999999999999999, -10032),
+            "-9.999999999999999999999999999999999e-9999",
+        ),
+    ];
+
     #[test]
     fn writes_texts(rt: HostRuntime) {
         for (pair, want) in TEXTS {
             let mut out = [0; 64];
             let length = at(pair).table_text(&mut out);
+            assert_eq!(rt; &out[..length], want.as_bytes(), "{pair:?}");
+        }
+    }
+
+    #[test]
+    fn writes_sci_texts(rt: HostRuntime) {
+        for (pair, want) in SCI_TEXTS {
+            let mut out = [0; 64];
+            let length = at(pair).sci_text(&mut out);
             assert_eq!(rt; &out[..length], want.as_bytes(), "{pair:?}");
         }
     }
