@@ -8,7 +8,8 @@ use Rattle.dk_types.specs.declared.study.Ending.{Ending}
 use Rattle.dk_types.specs.declared.study.Why.{Why}
 use Rattle.dk_types.specs.declared.rows.Row.{Row}
 use Rattle.dk_types.specs.Points.{point, size}
-use Rattle.dk_types.specs.Solo.{Solo, finished, aborted, goes_on, Child, next, At, Over, with_row}
+use Rattle.dk_types.specs.Planned.{next, At, Over}
+use Rattle.dk_types.specs.Solo.{Solo, finished, aborted, goes_on, Child, with_row}
 use Rattle.dk_types.specs.Laws.{AnswersPoints}
 use Rattle.dk_types.proofs.Once.{next_over, next_at, length_more}
 

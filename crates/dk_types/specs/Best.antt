@@ -1,5 +1,5 @@
 -- The best row, and rows whose point stands in an earlier one.
-use Rattle.std.specs.Prelude.{ℕ, ◌+◌, Bool, true, false, not, ◌&&◌, List, [], ◌∷◌, ◌++◌, length, position, Option, None, ◌==◌, if◌then◌else◌}
+use Rattle.std.specs.Prelude.{ℕ, ◌+◌, ◌-◌, Bool, true, false, not, ◌&&◌, List, [], ◌∷◌, ◌++◌, length, position, slice_get, Option, None, option_and_then, ◌==◌, if◌then◌else◌}
 use Rattle.std.specs.List.{list_any, list_all}
 use Rattle.std.specs.Ordering.{is_lt, is_eq}
 use Rattle.dk_num.specs.Decimal.{Decimal}
@@ -35,3 +35,7 @@ duplicates_behind before (row ∷ rows) =
 
 abbrev pub duplicates : List Row → ℕ
 duplicates rows = duplicates_behind [] rows
+
+-- where the first row with the same point as the row of this number stands, counted from 0; numbers count from 1
+abbrev pub first_with_point : List Row → (number : ℕ) → Option ℕ
+first_with_point rows number = option_and_then (λ row. position (λ other. same_point other.point row.point) rows) (slice_get rows (number - 1))

@@ -2,6 +2,7 @@ pub mod Points
 pub mod Limits
 pub mod Labels
 pub mod Sound
+pub mod Planned
 pub mod Solo
 pub mod Laws
 pub mod Best

@@ -1,22 +1,13 @@
 -- A study, evaluated one point at a time.
-use Rattle.std.specs.Prelude.{◌≡◌, ◌+◌, List, [], ◌∷◌, ◌++◌, length, Option, Some, None, option_map, nat_lt, if◌then◌else◌}
+use Rattle.std.specs.Prelude.{◌≡◌, ◌+◌, List, [], ◌∷◌, ◌++◌, length, Option, Some, None, option_map}
 use Rattle.dk_num.specs.Decimal.{Decimal}
 use Rattle.dk_num.specs.Arithmetic.{ros}
 use Rattle.dk_types.specs.declared.study.Study.{Study}
 use Rattle.dk_types.specs.declared.study.Why.{Why}
-use Rattle.dk_types.specs.declared.study.Why.TheVariants.{Complete}
 use Rattle.dk_types.specs.declared.study.Ending.{Ending}
 use Rattle.dk_types.specs.declared.study.Ending.TheVariants.{Finished, Aborted}
 use Rattle.dk_types.specs.declared.rows.Row.{Row}
-use Rattle.dk_types.specs.Points.{point, size}
-
-pub data Next : Type 0 where
-  At : List Decimal → Next
-  Over : Why → Next
-
--- what comes after these rows: the next point, or the end
-abbrev pub next : Study → List Row → Next
-next study rows = if nat_lt (length rows) (size study) then At (point study (length rows)) else Over Complete
+use Rattle.dk_types.specs.Planned.{next, At, Over}
 
 -- the values of a point, where its one attempt gives some
 abbrev pub Child : Type 0
