@@ -1,62 +1,30 @@
--- One turn of an evaluation, and one number of a point.
-use Rattle.std.proofs.Common.{◌≡◌, ℕ, zero, suc, ◌+◌, ◌<◌, ◌≤◌, ◌^◌, List, [], ◌∷◌, ◌++◌, length, map, get_or, drop, ℤ, pos, ◌+ℤ◌, ◌*ℤ◌, unsigned_abs, Some, None, true, false, refl, subst, sym, ap, lit<, ◌∙◌, arith, append_assoc, nat_lt, to_z, of_z}
+-- Batches of points, evaluated one after another.
+use Rattle.std.proofs.Common.{◌≡◌, ℕ, ◌+◌, ◌-◌, ◌<◌, ◌≤◌, List, [], ◌∷◌, ◌++◌, length, take, Some, None, Bool, true, false, if◌then◌else◌, refl, subst, sym, ap, ◌∙◌, arith, append_assoc, length-append, nat_lt}
+use Rattle.std.specs.Prelude.{slice_get}
 use Rattle.std.proofs.lemmas.Grind.{common_steps}
-use Rattle.std.proofs.lemmas.Int.{ints, to_z-of_z, fits_signed_from_abs}
-use Rattle.std.proofs.lemmas.List.{drop_more}
-use mir.Syntax.{w128}
+use Rattle.std.proofs.lemmas.List.{append-nil, length-map, map-append, take_more, take_all, length-take}
+use Rattle.std.proofs.lemmas.List.FromFn.{length-map-range_with_len, get_or-map-range_with_len}
+use Rattle.std.proofs.lemmas.Option.{get_or_from_slice_get, slice_get_within}
 use Rattle.dk_num.specs.Decimal.{Decimal}
-use Rattle.dk_num.specs.Units.{in_units}
 use Rattle.dk_types.specs.declared.study.Study.{Study}
-use Rattle.dk_types.specs.declared.study.Ending.{Ending}
-use Rattle.dk_types.specs.declared.study.Ending.TheVariants.{Finished, Aborted}
-use Rattle.dk_types.specs.declared.study.Why.TheVariants.{Complete}
+use Rattle.dk_types.specs.declared.study.Ending.TheVariants.{Aborted}
+use Rattle.dk_types.specs.declared.study.Why.{Why}
 use Rattle.dk_types.specs.declared.rows.Row.{Row}
+use Rattle.dk_types.specs.declared.planner.Plan.TheVariants.{Batch, Finished as Planned_Finished}
 use Rattle.dk_types.specs.Points.{point, size}
-use Rattle.dk_types.specs.Solo.{Solo, finished, aborted, goes_on, Child, At, next}
-use Rattle.dk_runner.specs.Evaluated.{AreFew}
-use Rattle.dk_types.proofs.Once.{next_at, next_over}
-use Rattle.dk_runner.proofs.Bounds.{moved_units}
-use Rattle.dk_runner.proofs.Repeats.{steps_on}
+use Rattle.dk_types.specs.Planned.{At, Over, Next, next, rest, plan, plan_by, Answers, AnswersLast}
+use Rattle.dk_types.specs.Solo.{Solo, aborted, goes_on, Child}
+use Rattle.dk_types.proofs.Once.{next_at}
+use Rattle.dk_types.specs.Planned.{points_from}
+use Rattle.dk_types.specs.declared.study.Why.TheVariants.{Complete}
+use Rattle.dk_method.specs.Plans.{Planned}
+use Rattle.dk_runner.specs.Evaluated.{LeadsOn}
 
--- each of some few numbers has at most 29 digits
-pub few_at : (numbers : List ℤ) (k : ℕ) (d : ℤ) → AreFew numbers → k < length numbers → unsigned_abs (get_or numbers k d) < 10 ^ 29
-few_at [] k d few within = absurd (omega arith)
-few_at (a ∷ others) zero d few within = few.0
-few_at (a ∷ others) (suc k) d few within = few_at others k d few.1 (omega arith)
+pub leads_itself : (study : Study) (child : Child) (rows : List Row) → LeadsOn study child rows rows
+leads_itself study child rows = record { on = λ last ending solo. solo }
 
--- a number of less than 127 bits is read as it is
-pub small_read : (n : ℤ) → unsigned_abs n < 2 ^ 127 → to_z w128 (of_z w128 n) ≡ n
-small_read n small = to_z-of_z w128 n (fits_signed_from_abs w128 n small)
-
--- and so is each of some few numbers
-pub few_read : (numbers : List ℤ) (k : ℕ) → AreFew numbers → k < length numbers → to_z w128 (of_z w128 (get_or numbers k (pos 0))) ≡ get_or numbers k (pos 0)
-few_read numbers k few within = let small = few_at numbers k (pos 0) few within in small_read (get_or numbers k (pos 0)) (omega arith)
-
--- a number of units, moved by at most 10,000 steps, has less than 127 bits
-pub moved_small : (a s : ℤ) (i : ℕ) → unsigned_abs a < 10 ^ 29 → unsigned_abs s < 10 ^ 29 → i ≤ 10000 → unsigned_abs (a +ℤ (pos i *ℤ s)) < 2 ^ 127
-moved_small a s i few_a few_s few = let small = moved_units a s i few_a few_s few in omega arith
-
--- it is what the parts are read as, together
-pub moved_read : (a s n : ℤ) (i : ℕ) → unsigned_abs a < 10 ^ 29 → unsigned_abs s < 10 ^ 29 → i ≤ 10000 → n ≡ pos i →
-    to_z w128 (of_z w128 a) +ℤ to_z w128 (of_z w128 (to_z w128 (of_z w128 n) *ℤ to_z w128 (of_z w128 s))) ≡ a +ℤ (pos i *ℤ s)
-moved_read a s n i few_a few_s few is =
-    let product : unsigned_abs (pos i *ℤ s) < 2 ^ 127 = (let small = moved_small (pos 0) s i (lit< tt) few_s few in omega (arith, ints)) in
-    rw (is, small_read a (omega arith), small_read s (omega arith), small_read (pos i) (omega (arith, ints)), small_read (pos i *ℤ s) product) refl
-
--- the decimals of a point
-abbrev pub decimals : ℤ → ℕ → List ℤ → List ℤ → List Decimal
-decimals e i initial step = map (in_units e) (steps_on i initial step)
-
--- one more number of a point
-pub one_number : (e : ℤ) (i place : ℕ) (starts step : List ℤ) (made more whole : List Decimal) (d : Decimal) → place < length starts → place < length step →
-    d ≡ in_units e (get_or starts place (pos 0) +ℤ (pos i *ℤ get_or step place (pos 0))) → more ≡ made ++ d ∷ [] →
-    made ++ decimals e i (drop place starts) (drop place step) ≡ whole → more ++ decimals e i (drop (place + 1) starts) (drop (place + 1) step) ≡ whole
-one_number e i place starts step made more whole d within along is pushed rest =
-    let behind : List Decimal = decimals e i (drop (place + 1) starts) (drop (place + 1) step) in
-    let a : drop place starts ≡ get_or starts place (pos 0) ∷ drop (place + 1) starts = drop_more starts place (pos 0) within in
-    let s : drop place step ≡ get_or step place (pos 0) ∷ drop (place + 1) step = drop_more step place (pos 0) along in
-    let left : decimals e i (drop place starts) (drop place step) ≡ in_units e (get_or starts place (pos 0) +ℤ (pos i *ℤ get_or step place (pos 0))) ∷ behind = rw (a, s) refl in
-    ap (λ l. l ++ behind) pushed ∙ append_assoc made (d ∷ []) behind ∙ ap (λ l. made ++ l) (ap (λ x. x ∷ behind) is ∙ sym left) ∙ rest
+pub leads_both : (study : Study) (child : Child) (old middle new : List Row) → LeadsOn study child old middle → LeadsOn study child middle new → LeadsOn study child old new
+leads_both study child old middle new a b = record { on = λ last ending solo. a.on last ending (b.on last ending solo) }
 
 -- where points are left the next one comes
 next_point : (study : Study) (rows : List Row) (n : ℕ) → length rows ≡ n → n < size study → next study rows ≡ At (point study n)
@@ -65,20 +33,144 @@ next_point study rows n count left =
     next_at study rows e ∙ ap (λ m. At (point study m)) count
 
 -- a point with values is a row
-pub one_row : (study : Study) (child : Child) (rows more last : List Row) (ending : Ending) (n : ℕ) (p v : List Decimal) →
-    length rows ≡ n → n < size study → p ≡ point study n → Some v ≡ child p → more ≡ rows ++ record { point = p; values = v } ∷ [] →
-    Solo study child more last ending → Solo study child rows last ending
-one_row study child rows more last ending n p v count left is answer pushed rest =
-    goes_on rows p v last ending (next_point study rows n count left ∙ ap At (sym is)) (sym answer) (subst (λ (l : List Row). Solo study child l last ending) pushed rest)
+one_row : (study : Study) (child : Child) (rows more : List Row) (n : ℕ) (p v : List Decimal) →
+    length rows ≡ n → n < size study → p ≡ point study n → Some v ≡ child p → more ≡ rows ++ record { point = p; values = v } ∷ [] → LeadsOn study child rows more
+one_row study child rows more n p v count left is answer pushed = record {
+  on = λ last ending solo. goes_on rows p v last ending (next_point study rows n count left ∙ ap At (sym is)) (sym answer) (subst (λ (l : List Row). Solo study child l last ending) pushed solo);
+}
 
 -- a point without values ends the study
-pub stopped : (study : Study) (child : Child) (rows : List Row) (n : ℕ) (p : List Decimal) →
+stopped : (study : Study) (child : Child) (rows : List Row) (n : ℕ) (p : List Decimal) →
     length rows ≡ n → n < size study → p ≡ point study n → None ≡ child p → Solo study child rows rows (Aborted (n + 1) 1)
 stopped study child rows n p count left is answer =
     subst (λ (m : ℕ). Solo study child rows rows (Aborted (m + 1) 1)) count (aborted rows p (next_point study rows n count left ∙ ap At (sym is)) (sym answer))
 
--- without a point left it is complete
-pub completed : (study : Study) (child : Child) (rows : List Row) → length rows ≡ size study → Solo study child rows rows (Finished Complete)
-completed study child rows all =
-    let e : nat_lt (length rows) (size study) ≡ false = grind (arith, common_steps) in
-    finished rows Complete (next_over study rows e)
+-- a point of what is left
+pub record IsLeftPoint (study : Study) (old : List Row) (k : ℕ) (p : List Decimal) : Type 0 where
+  pub is : p ≡ point study (length old + k)
+  pub within : length old + k < size study
+
+pub rest_long : (study : Study) (old : List Row) → length (rest study old) ≡ size study - length old
+rest_long study old = length-map-range_with_len (point study) (length old) (size study - length old)
+
+pub left_point : (study : Study) (old : List Row) (k : ℕ) (p : List Decimal) → slice_get (rest study old) k ≡ Some p → IsLeftPoint study old k p
+left_point study old k p h =
+    let long = rest_long study old in
+    let inside : k < length (rest study old) = slice_get_within (rest study old) k p h in
+    record {
+      is = sym (get_or_from_slice_get (rest study old) k p p h)
+          ∙ get_or-map-range_with_len (point study) (length old) (size study - length old) k (length old + k) p (omega arith) refl;
+      within = omega arith;
+    }
+
+-- a point of a planner's batch, which is what is left
+pub batch_point : (study : Study) (old : List Row) (batch : List (List Decimal)) (before first row : ℕ) (p : List Decimal) →
+    batch ≡ rest study old → before ≡ length old → first ≡ length old + 1 → slice_get batch (row - (before + 1)) ≡ Some p → slice_get (rest study old) (row - first) ≡ Some p
+batch_point study old batch before first row p is count from h =
+    let place : row - first ≡ row - (before + 1) = omega arith in
+    ap (slice_get (rest study old)) place ∙ ap (λ l. slice_get l (row - (before + 1))) (sym is) ∙ h
+
+-- the rows of the first points of a batch, behind those of before
+pub record IsAlong (study : Study) (child : Child) (old : List Row) (k : ℕ) (rows : List Row) : Type 0 where
+  pub answers : Answers old (take k (rest study old)) rows
+  pub leads : LeadsOn study child old rows
+
+pub along_none : (study : Study) (child : Child) (old : List Row) → IsAlong study child old 0 old
+along_none study child old = record {
+  answers = record { behind = []; split = sym (append-nil old); points = refl };
+  leads = leads_itself study child old;
+}
+
+pub along_count : (study : Study) (child : Child) (old rows : List Row) (k : ℕ) → k ≤ length (rest study old) → IsAlong study child old k rows → length rows ≡ length old + k
+along_count study child old rows k most was =
+    let a = ap length was.answers.split ∙ length-append old was.answers.behind in
+    let b = sym (length-map was.answers.behind (λ (r : Row). r.point)) ∙ ap length was.answers.points ∙ length-take k (rest study old) in
+    omega arith
+
+pub along_more : (study : Study) (child : Child) (old rows more : List Row) (k : ℕ) (p v : List Decimal) → slice_get (rest study old) k ≡ Some p → Some v ≡ child p →
+    more ≡ rows ++ record { point = p; values = v } ∷ [] → IsAlong study child old k rows → IsAlong study child old (k + 1) more
+along_more study child old rows more k p v h answer pushed was =
+    let inside : k < length (rest study old) = slice_get_within (rest study old) k p h in
+    let is = left_point study old k p h in
+    let count = along_count study child old rows k (omega arith) was in
+    let row : Row = record { point = p; values = v } in
+    record {
+      answers = record {
+        behind = was.answers.behind ++ row ∷ [];
+        split = pushed ∙ ap (λ l. l ++ row ∷ []) was.answers.split ∙ append_assoc old was.answers.behind (row ∷ []);
+        points = map-append (λ (r : Row). r.point) was.answers.behind (row ∷ []) ∙ ap (λ l. l ++ p ∷ []) was.answers.points
+            ∙ sym (take_more (rest study old) k p inside ∙ ap (λ q. take k (rest study old) ++ q ∷ []) (get_or_from_slice_get (rest study old) k p p h));
+      };
+      leads = leads_both study child old rows more was.leads (one_row study child rows more (length old + k) p v count is.within is.is answer pushed);
+    }
+
+-- a point without values ends the study with the rows so far
+pub along_stopped : (study : Study) (child : Child) (old rows : List Row) (k number : ℕ) (p : List Decimal) → slice_get (rest study old) k ≡ Some p → None ≡ child p →
+    number ≡ (length old + k) + 1 → IsAlong study child old k rows → Solo study child old rows (Aborted number 1)
+along_stopped study child old rows k number p h answer number_is was =
+    let inside : k < length (rest study old) = slice_get_within (rest study old) k p h in
+    let is = left_point study old k p h in
+    let count = along_count study child old rows k (omega arith) was in
+    was.leads.on rows (Aborted number 1) (subst (λ (n : ℕ). Solo study child rows rows (Aborted n 1)) (sym number_is) (stopped study child rows (length old + k) p count is.within is.is answer))
+
+-- behind its last point a batch has all its rows
+pub along_all : (study : Study) (child : Child) (old rows : List Row) (k : ℕ) → length (rest study old) ≤ k → IsAlong study child old k rows →
+    Answers old (rest study old) rows × LeadsOn study child old rows
+along_all study child old rows k all was = (
+  record {
+    behind = was.answers.behind;
+    split = was.answers.split;
+    points = was.answers.points ∙ take_all k (rest study old) all;
+  },
+  was.leads,
+)
+
+-- so far the rows are those that the planner's batches asked for
+pub record IsUnderWay (study : Study) (child : Child) (planned : Planned) (rows : List Row) : Type 0 where
+  pub study_is : planned.study ≡ study
+  pub answered : AnswersLast (λ given. length given ≡ planned.before) (points_from planned.study planned.before planned.count) rows
+  pub leads : LeadsOn study child [] rows
+
+pub under_way_first : (study : Study) (child : Child) (planned : Planned) (rows : List Row) → planned ≡ record { study = study; before = 0; count = 0 } → rows ≡ [] → IsUnderWay study child planned rows
+under_way_first study child planned rows is none = rw (is, none) (record {
+  study_is = refl;
+  answered = record { before = []; given = refl; answers = record { behind = []; split = refl; points = refl } };
+  leads = leads_itself study child [];
+})
+
+-- a batch is planned where points are left, and all of them
+pub record IsPlannedBatch (study : Study) (rows : List Row) (first count : ℕ) : Type 0 where
+  pub first_is : first ≡ length rows + 1
+  pub count_is : count ≡ length (rest study rows)
+  pub left : length rows < size study
+
+pub batch_is : (study : Study) (rows : List Row) (first count : ℕ) → plan study rows ≡ Batch first count → IsPlannedBatch study rows first count
+batch_is study rows first count h = at (nat_lt (length rows) (size study)) refl h
+  where
+    at : (b : Bool) → nat_lt (length rows) (size study) ≡ b → plan_by (length rows) (rest study rows) (if b then At (point study (length rows)) else Over Complete) ≡ Batch first count → IsPlannedBatch study rows first count
+    at true e k = record { first_is = cc; count_is = cc; left = grind (arith, common_steps) }
+    at false e k = absurd (cc)
+
+pub end_is : (study : Study) (rows : List Row) (why : Why) → plan study rows ≡ Planned_Finished why → next study rows ≡ Over why
+end_is study rows why h = at (next study rows) refl h
+  where
+    at : (n : Next) → next study rows ≡ n → plan_by (length rows) (rest study rows) n ≡ Planned_Finished why → next study rows ≡ Over why
+    at (At p) e k = absurd (cc)
+    at (Over other) e k = e ∙ ap Over (let s : other ≡ why = cc in s)
+
+-- behind a batch with all its rows
+pub under_way_more : (study : Study) (child : Child) (planned : Planned) (old rows : List Row) → planned.study ≡ study → planned.before ≡ length old →
+    points_from planned.study planned.before planned.count ≡ rest study old → Answers old (rest study old) rows → LeadsOn study child old rows → LeadsOn study child [] old → IsUnderWay study child planned rows
+under_way_more study child planned old rows is before batch answers leads was = record {
+  study_is = is;
+  answered = record { before = old; given = sym before; answers = subst (λ (l : List (List Decimal)). Answers old l rows) (sym batch) answers };
+  leads = leads_both study child [] old rows was leads;
+}
+
+-- and with fewer points left
+pub fewer_left : (study : Study) (old rows : List Row) → length old < size study → Answers old (rest study old) rows → size study - length rows < size study - length old
+fewer_left study old rows left answers =
+    let long = rest_long study old in
+    let a = ap length answers.split ∙ length-append old answers.behind in
+    let b = sym (length-map answers.behind (λ (r : Row). r.point)) ∙ ap length answers.points in
+    omega arith

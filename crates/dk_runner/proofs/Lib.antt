@@ -1,12 +1,10 @@
 pub mod Accepts
 pub mod BestRows
-pub mod Bounds
 pub mod Complete
 pub mod Decided
-pub mod Evaluated
 pub mod Evaluations
 pub mod Parts
-pub mod Repeats
+pub mod Repeated
 pub mod Reported
 pub mod Saying
 pub mod Told

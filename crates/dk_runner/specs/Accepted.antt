@@ -1,22 +1,15 @@
 -- The studies that are evaluated so far, and which study a text gives, or why none.
 use Rattle.std.specs.Prelude.{◌≡◌, ℕ, ◌<◌, ◌≤◌, Bool, true, false, ◌&&◌, List, length}
 use Rattle.dk_types.specs.declared.study.Study.{Study}
-use Rattle.dk_types.specs.declared.study.Method.{Method}
-use Rattle.dk_types.specs.declared.study.Method.TheVariants.{Vector}
-use Rattle.dk_types.specs.declared.study.Way.TheVariants.{Step}
 use Rattle.dk_types.specs.declared.study.Driver.{Driver}
 use Rattle.dk_types.specs.declared.study.Driver.TheVariants.{Direct}
 use Rattle.dk_types.specs.declared.study.FailRule.{FailRule}
 use Rattle.dk_types.specs.declared.study.FailRule.TheVariants.{Abort}
+use Rattle.dk_method.specs.Plans.{has_points}
 use Rattle.dk_reader.specs.Reading.{Reads, HasFault}
 use Rattle.dk_reader.specs.declared.fault.StudyFault.{StudyFault}
 use Rattle.dk_reader.specs.declared.fault.StudyKind.{StudyKind}
 use Rattle.dk_reader.specs.declared.fault.StudyKind.TheVariants.{TooLong, Unsupported}
-
--- a vector study with a step
-abbrev pub is_built_method : Method → Bool
-is_built_method (Vector steps (Step step)) = true
-is_built_method _ = false
 
 -- the program's own function
 abbrev pub is_built_driver : Driver → Bool
@@ -28,9 +21,9 @@ abbrev pub is_built_rule : FailRule → Bool
 is_built_rule Abort = true
 is_built_rule _ = false
 
--- the studies that are evaluated so far
+-- the studies that are evaluated so far: those of the four methods whose points are known from the beginning
 abbrev pub is_built : Study → Bool
-is_built study = is_built_method study.method && is_built_driver study.interface.driver && is_built_rule study.interface.rule
+is_built study = has_points study.method && is_built_driver study.interface.driver && is_built_rule study.interface.rule
 
 -- the text has at most 1,048,576 bytes and says this study, which is one of those that are evaluated
 pub record Accepts (text : List ℕ) (study : Study) : Type 0 where

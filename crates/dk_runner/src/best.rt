@@ -1,17 +1,12 @@
-// The best row of a study, and its duplicates.
-ghost use Rattle.std.specs.Prelude.{◌≡◌, ℕ, List, ℤ, ◌<◌, ◌≤◌, not, [], length, position, pos, Some, IfSome};
-ghost use Rattle.std.specs.Ordering.{int_eq};
-ghost use Rattle.std.specs.List.{All, list_any};
+// The best row of a study.
+ghost use Rattle.std.specs.Prelude.{◌≡◌, ◌<◌, [], length, position, Some, IfSome};
+ghost use Rattle.std.specs.List.{All};
 ghost use Rattle.dk_types.specs.Solo.{Solo, rosenbrock_child};
-ghost use Rattle.dk_types.specs.Best.{best, is_below as is_below_lem, is_least, duplicates};
-ghost use Rattle.dk_runner.specs.Evaluated.{IsEvaluated, IsEvaluatedMethod};
+ghost use Rattle.dk_types.specs.Best.{best, is_below as is_below_lem, is_least};
 ghost use Rattle.dk_types.specs.declared.study.Ending.{Ending};
-ghost use Rattle.dk_types.specs.declared.study.Method.TheVariants.{Vector};
-ghost use Rattle.dk_types.specs.declared.study.Way.TheVariants.{Step};
 
-use crate::evaluate::step_of;
 use dk_num::Dec;
-use dk_types::{Method, Row, Study};
+use dk_types::{Row, Study};
 
 /// Where the first row with the least value stands, counted from 0; none where there is no row, or not just one
 /// objective function.
@@ -53,33 +48,4 @@ fn is_below(values: &[Dec], others: &[Dec]) -> bool
         ([value, ..], [other, ..]) => value < other,
         _ => false,
     }
-}
-
-/// How many rows have the point of an earlier one: all behind the first where the step is zero, and else none.
-pub fn duplicate_count(study: &Study, rows: &[Row]) -> usize
-    requires evaluated { IsEvaluated study.now }
-    requires rows { (ending : Ending) × Solo study.now rosenbrock_child [] rows.now ending }
-    ensures value { result ≡ duplicates rows.now }
-    ensures few { result ≤ length rows.now }
-{
-    if rows.is_empty() || moves(&study.method) {
-        0
-    } else {
-        rows.len() - 1
-    }
-}
-
-/// Whether a method's step isn't zero.
-fn moves(method: &Method) -> bool
-    requires { IsEvaluatedMethod 2 method.now }
-    ensures { (steps : ℕ) (step : List ℤ) → method.now ≡ Vector steps (Step step) → result ≡ list_any (λ part. not (int_eq part (pos 0))) step }
-{
-    has_nonzero(step_of(method))
-}
-
-/// Whether one of some numbers isn't zero.
-fn has_nonzero(numbers: &[i128]) -> bool
-    ensures { result ≡ list_any (λ number. not (int_eq number (pos 0))) numbers.now }
-{
-    numbers.iter().any(|number| *number != 0)
 }

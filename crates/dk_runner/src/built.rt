@@ -1,29 +1,17 @@
 // The studies that are evaluated so far.
 ghost use Rattle.std.specs.Prelude.{◌≡◌};
-ghost use Rattle.dk_runner.specs.Accepted.{is_built as is_built_lem, is_built_method as is_built_method_lem, is_built_driver as is_built_driver_lem, is_built_rule as is_built_rule_lem};
+ghost use Rattle.dk_runner.specs.Accepted.{is_built as is_built_lem, is_built_driver as is_built_driver_lem, is_built_rule as is_built_rule_lem};
 
-use dk_types::{Driver, FailRule, Method, Study, Way};
+use dk_method::has_points;
+use dk_types::{Driver, FailRule, Study};
 
 /// Whether a study is one of those that are evaluated so far.
 pub fn is_built(study: &Study) -> bool
     ensures { result ≡ is_built_lem study.now }
 {
-    is_built_method(&study.method)
+    has_points(study)
         && is_built_driver(&study.interface.driver)
         && is_built_rule(&study.interface.rule)
-}
-
-/// Whether a method is a vector study with a step.
-fn is_built_method(method: &Method) -> bool
-    ensures { result ≡ is_built_method_lem method.now }
-{
-    match method {
-        Method::Vector {
-            steps: _,
-            way: Way::Step(_),
-        } => true,
-        _ => false,
-    }
 }
 
 /// Whether points are evaluated by the program's own function.

@@ -1,131 +1,109 @@
 // The evaluation of a study, one point after another.
-ghost use Rattle.std.specs.Prelude.{◌≡◌, ℕ, ◌+◌, ◌<◌, ◌≤◌, ◌^◌, List, [], length, map, zip, ℤ, pos, ◌+ℤ◌, ◌*ℤ◌, unsigned_abs, IfOk};
-ghost use Rattle.dk_num.specs.Units.{in_units, IsUnitExponent};
+ghost use Rattle.std.specs.Prelude.{◌≡◌, ◌+◌, ◌-◌, ◌<◌, ◌≤◌, ◌^◌, [], length, slice_get, IfOk, Some};
 ghost use Rattle.dk_types.specs.Points.{size, point};
+ghost use Rattle.dk_types.specs.Planned.{rest, IsInBatch};
+ghost use Rattle.dk_types.specs.Sound.{IsSound};
+ghost use Rattle.dk_types.specs.Best.{duplicates};
 ghost use Rattle.dk_types.specs.Solo.{Solo, rosenbrock_child};
-ghost use Rattle.dk_runner.specs.Evaluated.{IsEvaluated, IsEvaluatedMethod, AreFew};
-ghost use Rattle.dk_types.specs.declared.study.Method.TheVariants.{Vector};
-ghost use Rattle.dk_types.specs.declared.study.Way.TheVariants.{Step};
+ghost use Rattle.dk_runner.specs.Evaluated.{IsEvaluated, EndsBatch};
 
-use dk_num::{Dec, Unit, from_units, rosenbrock};
-use dk_types::{Decs, Ending, Method, Row, Study, Way, Why};
+use crate::duplicates::duplicate_count;
+use crate::rows::RowList;
+use dk_method::plan_of;
+use dk_num::{Dec, rosenbrock};
+use dk_types::{Decs, Ending, Plan, Planner, Row, Study};
 use std::alloc::{AllocError, Global};
 
-/// The rows of a study, and how it ended.
+/// The rows of a study, how it ended, and how many of the rows have the point of an earlier one.
 #[derive(Drop)]
 pub struct Ran {
-    pub rows: Vec<Row>,
+    pub rows: RowList,
     pub ending: Ending,
+    pub duplicates: usize,
 }
 
 /// Evaluates the points of a study, one after another, up to the first that has no value.
 pub fn evaluate(alloc: Global, study: &Study) -> Result<Ran, AllocError>
     requires { IsEvaluated study.now }
-    ensures { IfOk result (λ ran. Solo study.now rosenbrock_child [] ran.rows.items ran.ending) }
+    ensures alone { IfOk result (λ ran. Solo study.now rosenbrock_child [] ran.rows ran.ending) }
+    ensures repeated { IfOk result (λ ran. ran.duplicates ≡ duplicates ran.rows) }
 {
-    let count = point_count(study);
-    let mut rows = Vec::with_capacity(alloc, count as usize)?;
-    for number in 0..count {
-        let point = point_at(alloc, study, number)?;
-        match attempt(alloc, &point)? {
-            Some(values) => rows.push(Row { point, values })?,
-            None => {
-                let ending = Ending::Aborted {
-                    evaluation: number + 1,
-                    attempts: 1,
-                };
-                return Ok(Ran { rows, ending });
-            }
-        }
-    }
+    let mut rows = RowList::with_capacity(alloc, study.limit)?;
+    let ending = evaluate_batches(alloc, study, &mut rows)?;
+    let duplicates = duplicate_count(alloc, rows.items())?;
     Ok(Ran {
         rows,
-        ending: Ending::Finished(Why::Complete),
+        ending,
+        duplicates,
     })
 }
 
-/// How many points the study has.
-fn point_count(study: &Study) -> u32
-    requires { IsEvaluated study.now }
-    ensures { result ≡ size study.now }
-{
-    match &study.method {
-        Method::Vector {
-            steps,
-            way: Way::Step(_),
-        } => *steps + 1,
-        _ => unreachable!(),
-    }
-}
-
-/// The point of this number, counted from 0.
-fn point_at(alloc: Global, study: &Study, number: u32) -> Result<Decs, AllocError>
+/// Evaluates one batch of points after another, up to the end, and adds their rows.
+fn evaluate_batches(alloc: Global, study: &Study, rows: &mut RowList) -> Result<Ending, AllocError>
     requires evaluated { IsEvaluated study.now }
-    requires within { number < size study.now }
-    ensures { IfOk result (λ p. p ≡ point study.now number) }
+    requires none { rows.old ≡ [] }
+    ensures { IfOk result (λ ending. Solo study.now rosenbrock_child [] rows.new ending) }
 {
-    let initial = study.variables.initial.items();
-    let step = step_of(&study.method);
-    let point = moved(alloc, initial, step, number, study.unit)?;
-    Ok(Decs::of_vec(point))
-}
-
-/// The step of a vector study.
-pub fn step_of(method: &Method) -> &[i128]
-    requires { IsEvaluatedMethod 2 method.now }
-    ensures { (steps : ℕ) (step : List ℤ) → method.now ≡ Vector steps (Step step) → result.now ≡ step }
-{
-    match method {
-        Method::Vector {
-            steps: _,
-            way: Way::Step(step),
-        } => step.items(),
-        _ => unreachable!(),
+    let mut planning = plan_of(alloc, study)?;
+    loop {
+        match planning.next(rows) {
+            Plan::Finished(why) => return Ok(Ending::Finished(why)),
+            Plan::Batch { first, count } => {
+                if let Some(ending) = evaluate_batch(alloc, &planning, study, first, count, rows)? {
+                    return Ok(ending);
+                }
+            }
+        }
     }
 }
 
-/// The decimals so many steps from the start.
-fn moved(
+/// Evaluates the points of a batch up to the first that has no value, and adds their rows.
+fn evaluate_batch<P: Planner>(
     alloc: Global,
-    starts: &[i128],
-    step: &[i128],
-    number: u32,
-    unit: Unit,
-) -> Result<Vec<Dec>, AllocError>
-    requires starts { AreFew starts.now }
-    requires step { AreFew step.now }
-    requires long { length step.now ≡ length starts.now }
-    requires number { number ≤ 10000 }
-    requires unit { IsUnitExponent unit.exponent }
-    ensures { IfOk result (λ p. p.items ≡ map (in_units unit.exponent) (map (λ c. c.0 +ℤ (pos number *ℤ c.1)) (zip starts.now step.now))) }
+    planner: &P,
+    study: &Study,
+    first: u32,
+    count: u32,
+    rows: &mut RowList,
+) -> Result<Option<Ending>, AllocError>
+    requires sound { IsSound study.now }
+    requires study { P.study planner.now ≡ study.now }
+    requires before { P.before planner.now ≡ length rows.old }
+    requires batch { P.batch planner.now ≡ rest study.now rows.old }
+    requires first { first ≡ length rows.old + 1 }
+    requires count { count ≡ length (rest study.now rows.old) }
+    ensures { IfOk result (λ ended. EndsBatch study.now rosenbrock_child (rest study.now rows.old) rows.old rows.new ended) }
 {
-    let mut point = Vec::with_capacity(alloc, starts.len())?;
-    for (place, start) in starts.iter().enumerate() {
-        point.push(component(*start, step[place], number, unit))?;
+    for row in first..first + count {
+        let point = point_of(alloc, planner, study, row)?;
+        match attempt(alloc, &point)? {
+            Some(values) => rows.push(Row { point, values })?,
+            None => {
+                return Ok(Some(Ending::Aborted {
+                    evaluation: row,
+                    attempts: 1,
+                }));
+            }
+        }
     }
-    Ok(point)
+    Ok(None)
 }
 
-/// The decimal so many steps from a start.
-fn component(start: i128, step: i128, number: u32, unit: Unit) -> Dec
-    requires start { unsigned_abs start < 10 ^ 29 }
-    requires step { unsigned_abs step < 10 ^ 29 }
-    requires number { number ≤ 10000 }
-    requires unit { IsUnitExponent unit.exponent }
-    ensures { result ≡ in_units unit.exponent (start +ℤ (pos number *ℤ step)) }
+/// The point of a row of the last batch.
+fn point_of<P: Planner>(
+    alloc: Global,
+    planner: &P,
+    study: &Study,
+    row: u32,
+) -> Result<Decs, AllocError>
+    requires sound { IsSound study.now }
+    requires study { P.study planner.now ≡ study.now }
+    requires row { IsInBatch (P.before planner.now) (P.batch planner.now) row }
+    ensures { IfOk result (λ point. slice_get (P.batch planner.now) (row - (P.before planner.now + 1)) ≡ Some point) }
 {
-    from_units(stepped(start, step, number), unit)
-}
-
-/// A number of units, so many steps on.
-fn stepped(start: i128, step: i128, number: u32) -> i128
-    requires start { unsigned_abs start < 10 ^ 29 }
-    requires step { unsigned_abs step < 10 ^ 29 }
-    requires number { number ≤ 10000 }
-    ensures value { result ≡ start +ℤ (pos number *ℤ step) }
-    ensures small { unsigned_abs result < 10 ^ 34 }
-{
-    start + i128::from(number) * step
+    let mut point = vec![in alloc; Dec::whole(0); study.variables.labels.items().len()]?;
+    planner.point(row, &mut point);
+    Ok(Decs::of_vec(point))
 }
 
 /// The values of a point, where it has some.

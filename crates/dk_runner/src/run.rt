@@ -1,6 +1,7 @@
 // The top call.
 ghost use Rattle.std.specs.Prelude.{◌≡◌, ℕ, ◌≤◌, [], length, map, IfErr, IfOk, IfSome, IsTrue, OnOk, Some, string_bytes};
 ghost use Rattle.dk_outside.specs.Causes.{Rose};
+ghost use Rattle.dk_types.specs.Best.{duplicates};
 ghost use Rattle.dk_types.specs.Solo.{Solo, rosenbrock_child};
 ghost use Rattle.dk_runner.specs.Words.{IsRun, Misused};
 ghost use Rattle.dk_runner.specs.Evaluated.{IsEvaluated};
@@ -35,8 +36,9 @@ pub struct Ended<K, B> {
 ///
 /// The words are `-i FILE`, and `study` is the source over that file. Its text is read, the study is evaluated one
 /// point after another up to the first point without a value, and the table and then the summary are written. A text may
-/// say any study; so far vector studies with a step over the program's own function are evaluated, and each other one is
-/// refused as unsupported, with an empty span at the text's beginning.
+/// say any study; so far vector, list, centered and multidimensional studies over the program's own function that end at
+/// a point without a value are evaluated, and each other one is refused as unsupported, with an empty span at the text's
+/// beginning.
 pub fn dakota<S: Source, K: Disk, T: Sink, U: Sink, B: Bench>(
     alloc: Global,
     words: &[String],
@@ -175,13 +177,13 @@ fn refuse<U: Sink>(status: Status, out: &mut U) -> Status
 
 /// Writes the table and then the summary.
 fn report<T: Sink, U: Sink>(study: &Study, ran: &Ran, table: &mut T, out: &mut U) -> Status
-    requires evaluated { IsEvaluated study.now }
-    requires alone { Solo study.now rosenbrock_child [] ran.now.rows.items ran.now.ending }
+    requires alone { Solo study.now rosenbrock_child [] ran.now.rows ran.now.ending }
+    requires repeated { ran.now.duplicates ≡ duplicates ran.now.rows }
     ensures grows { OnlyGrows (U.held out.old) (U.held out.new) }
-    ensures reports { Reports study.now ran.now.rows.items ran.now.ending (T.held table.old) (T.held table.new) (T.faults table.old) (T.faults table.new)
+    ensures reports { Reports study.now ran.now.rows ran.now.ending (T.held table.old) (T.held table.new) (T.faults table.old) (T.faults table.new)
         (U.held out.old) (U.held out.new) (U.faults out.old) (U.faults out.new) result }
 {
-    match write_table(study, &ran.rows, table) {
+    match write_table(study, ran.rows.items(), table) {
         Ok(()) => report_summary(study, ran, out),
         Err(Failed) => refuse(Status::SinkFault(Which::Table), out),
     }
@@ -189,12 +191,12 @@ fn report<T: Sink, U: Sink>(study: &Study, ran: &Ran, table: &mut T, out: &mut U
 
 /// Writes the summary.
 fn report_summary<U: Sink>(study: &Study, ran: &Ran, out: &mut U) -> Status
-    requires evaluated { IsEvaluated study.now }
-    requires alone { Solo study.now rosenbrock_child [] ran.now.rows.items ran.now.ending }
+    requires alone { Solo study.now rosenbrock_child [] ran.now.rows ran.now.ending }
+    requires repeated { ran.now.duplicates ≡ duplicates ran.now.rows }
     ensures grows { OnlyGrows (U.held out.old) (U.held out.new) }
-    ensures summarizes { Summarizes study.now ran.now.rows.items ran.now.ending (U.held out.old) (U.held out.new) (U.faults out.old) (U.faults out.new) result }
+    ensures summarizes { Summarizes study.now ran.now.rows ran.now.ending (U.held out.old) (U.held out.new) (U.faults out.old) (U.faults out.new) result }
 {
-    match write_summary(study, &ran.rows, &ran.ending, out) {
+    match write_summary(study, ran.rows.items(), ran.duplicates, &ran.ending, out) {
         Ok(()) => status_of(&ran.ending),
         Err(Failed) => Status::SinkFault(Which::Out),
     }

@@ -4,33 +4,34 @@ ghost use Rattle.dk_outside.specs.Causes.{HasCause};
 ghost use Rattle.dk_outside.specs.Flows.{flow, CarriesOn};
 ghost use Rattle.dk_outside.specs.Sinks.{WritesText};
 ghost use Rattle.dk_types.specs.Solo.{Solo, rosenbrock_child};
-ghost use Rattle.dk_types.specs.Best.{best};
+ghost use Rattle.dk_types.specs.Best.{best, duplicates};
 ghost use Rattle.dk_types.specs.Texts.{summary, why_text, ending_line, counts_line, best_lines, best_text, setting, settings_after};
-ghost use Rattle.dk_runner.specs.Evaluated.{IsEvaluated};
 ghost use Rattle.dk_types.specs.declared.study.Ending.{Ending};
 ghost use Rattle.dk_types.specs.declared.study.Ending.TheVariants.{Finished, Aborted};
 
-use crate::best::{best_row, duplicate_count};
+use crate::best::best_row;
 use crate::table::put_decimal;
 use dk_num::Dec;
 use dk_outside::{Buffer, Failed, Sink};
 use dk_types::{Ending, Row, Study, Text, Why};
 
-/// Writes how the study ended, how many rows there are and how many of them are duplicates, and the best row.
+/// Writes how the study ended, how many rows there are and how many of them are duplicates, which is handed in, and the
+/// best row.
 pub fn write_summary<U: Sink>(
     study: &Study,
     rows: &[Row],
+    repeated: usize,
     ending: &Ending,
     out: &mut U,
 ) -> Result<(), Failed>
-    requires evaluated { IsEvaluated study.now }
+    requires repeated { repeated ≡ duplicates rows.now }
     requires alone { Solo study.now rosenbrock_child [] rows.now ending.now }
     ensures bytes { WritesText (U.held out.old) (U.held out.new) result (summary study.now rows.now ending.now) }
     ensures cause { HasCause (U.faults out.old) (U.faults out.new) result }
 {
     let mut buffer = Buffer::new();
     put_ending(ending, &mut buffer, out);
-    put_counts(rows.len(), duplicate_count(study, rows), &mut buffer, out);
+    put_counts(rows.len(), repeated, &mut buffer, out);
     put_best(study, rows, &mut buffer, out);
     buffer.finish(out)
 }

@@ -2,6 +2,8 @@
 mod checks;
 mod command_line;
 mod fakes;
+mod points;
+mod studies;
 mod texts;
 
 use crate::{Span, Status, StudyFault, StudyKind, Which, dakota};
@@ -282,10 +284,10 @@ fn other_texts_are_refused_at_their_place(rt: HostRuntime) -> Result<(), Fail> {
 fn studies_that_are_not_built_are_refused(rt: HostRuntime) -> Result<(), Fail> {
     let alloc = rt.alloc();
     let vector = "vector_parameter_study\n    num_steps = 2\n    step_vector = 0.5 0.5";
-    let list = "list_parameter_study list_of_points = 0 0 1 1";
+    let search = "compass_search initial_delta = 1 threshold_delta = 0.5";
     let cases: [&[(&str, &str)]; 4] = [
-        &[(vector, list)],
-        &[("step_vector = 0.5 0.5", "final_point = 1 1")],
+        &[(vector, search)],
+        &[("direct", "direct failure_capture recover = 7")],
         &[("'rosenbrock'\n    direct", "'simulate -v' fork")],
         &[("direct", "direct failure_capture retry = 2")],
     ];

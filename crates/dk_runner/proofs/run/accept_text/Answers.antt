@@ -1,10 +1,9 @@
 use Rattle.std.proofs.Common.{sym, ◌∙◌}
 use Rattle.dk_runner.specs.Accepted.{faulty, unbuilt}
-use Rattle.dk_runner.proofs.Evaluated.{evaluated}
 use Rattle.dk_runner.proofs.run.accept_text.Goals as goal
 
 pub returns-in-Ok-clause-evaluated : goal.returns-in-Ok-clause-evaluated
-returns-in-Ok-clause-evaluated c = evaluated c.in-Ok.study c.in-Ok.ensures.sound (sym c.is_built.ensures ∙ c.if-is_built.true)
+returns-in-Ok-clause-evaluated c = record { sound = c.in-Ok.ensures.sound; built = sym c.is_built.ensures ∙ c.if-is_built.true }
 
 pub returns-in-Ok-2-clause-reason : goal.returns-in-Ok-2-clause-reason
 returns-in-Ok-2-clause-reason c = rw c.refused.ensures (unbuilt c.in-Ok.study c.requires c.in-Ok.ensures.says (sym c.is_built.ensures ∙ c.if-is_built.false))

@@ -1,0 +1,5 @@
+use Rattle.dk_method.proofs.GridLaws.{each_choice_is_made_once}
+use Rattle.dk_method.proofs.laws.each_choice_once.Goals as goal
+
+pub returns : goal.returns
+returns c = each_choice_is_made_once

@@ -1,0 +1,5 @@
+use Rattle.dk_method.proofs.PointLaws.{quantities_are_small}
+use Rattle.dk_method.proofs.laws.each_quantity_is_small.Goals as goal
+
+pub returns : goal.returns
+returns c = quantities_are_small

@@ -1,0 +1,137 @@
+// Whole runs of the four parameter studies.
+use super::fakes::Given;
+use super::run;
+use super::texts::edited;
+use crate::Status;
+use crate::rows::RowList;
+use dk_num::Dec;
+use dk_types::{Decs, Row, Rows};
+use std::test::Fail;
+
+/// The edits of the base study, how a run of it ends, its table and its summary.
+type Case<'a> = (&'a [(&'a str, &'a str)], Status, &'a str, &'a str);
+
+const METHOD: &str = "vector_parameter_study\n    num_steps = 2\n    step_vector = 0.5 0.5";
+
+const CENTERED: &str = "%eval_id interface x1 x2 obj_fn
+1 NO_ID 0 0 1
+2 NO_ID -1 0 104
+3 NO_ID 1 0 100
+4 NO_ID 0 -1 101
+5 NO_ID 0 1 101
+";
+
+const AT_THE_CENTRE: &str = "<<<<< Study finished: complete
+<<<<< Function evaluation summary: 5 total (5 new, 0 duplicate)
+<<<<< Best evaluation: 1
+<<<<< Best parameters: x1 = 0, x2 = 0
+<<<<< Best objective function: obj_fn = 1
+";
+
+const LISTED: &str = "%eval_id interface x1 x2 obj_fn
+1 NO_ID 0.1 0 0.82
+2 NO_ID 0.1 0 0.82
+";
+
+const LISTED_TWICE: &str = "<<<<< Study finished: complete
+<<<<< Function evaluation summary: 2 total (1 new, 1 duplicate)
+<<<<< Best evaluation: 1
+<<<<< Best parameters: x1 = 0.1, x2 = 0
+<<<<< Best objective function: obj_fn = 0.82
+";
+
+const FIRST_OF_A_WAY: &str = "%eval_id interface x1 x2 obj_fn
+1 NO_ID 0 0 1
+";
+
+const STOPPED_ON_THE_WAY: &str = "<<<<< Study aborted: evaluation 2 failed, attempts 1
+<<<<< Function evaluation summary: 1 total (1 new, 0 duplicate)
+<<<<< Best evaluation: 1
+<<<<< Best parameters: x1 = 0, x2 = 0
+<<<<< Best objective function: obj_fn = 1
+";
+
+/// A centered study, a list with a point twice, and a way to a final point whose second point has no value.
+#[test]
+fn each_study_has_its_rows(rt: HostRuntime) -> Result<(), Fail> {
+    let alloc = rt.alloc();
+    let centered = "centered_parameter_study step_vector = 1 1 steps_per_variable = 1 1";
+    let list = "list_parameter_study list_of_points = 0.10 0 1e-1 0";
+    let way = "vector_parameter_study num_steps = 3 final_point = 1 1";
+    let cases: [Case; 3] = [
+        (
+            &[(METHOD, centered)],
+            Status::Finished,
+            CENTERED,
+            AT_THE_CENTRE,
+        ),
+        (&[(METHOD, list)], Status::Finished, LISTED, LISTED_TWICE),
+        (
+            &[(METHOD, way)],
+            Status::Aborted,
+            FIRST_OF_A_WAY,
+            STOPPED_ON_THE_WAY,
+        ),
+    ];
+    for (edits, status, rows, told) in cases {
+        let text = edited(alloc, edits)?;
+        let left = run(alloc, &["-i", "s1.in"], Given::of(text), 1000)?;
+        assert_eq!(rt; left.status, status, "{told}");
+        assert_eq!(rt; left.table.taken(), rows.as_bytes(), "{told}");
+        assert_eq!(rt; left.out.taken(), told.as_bytes(), "{told}");
+    }
+    Ok(())
+}
+
+const FIRST_ROWS: &str = "%eval_id interface x1 x2 response_fn_1
+1 NO_ID -2 -2 3609
+2 NO_ID -1.5 -2 1812.5
+3 NO_ID -1 -2 904
+";
+
+const LAST_ROW: &str = "\n81 NO_ID 2 2 401\n";
+
+const GRID_TOLD: &str = "<<<<< Study finished: complete
+<<<<< Function evaluation summary: 81 total (81 new, 0 duplicate)
+";
+
+/// A grid of nine values for each of two variables.
+#[test]
+fn a_grid_has_a_row_for_each_choice(rt: HostRuntime) -> Result<(), Fail> {
+    let alloc = rt.alloc();
+    let edits = [
+        (METHOD, "multidim_parameter_study partitions = 8 8"),
+        (
+            "initial_point = 0 0",
+            "lower_bounds = -2.0 -2.0 upper_bounds = 2.0 2.0",
+        ),
+        ("objective_functions", "response_functions"),
+    ];
+    let text = edited(alloc, &edits)?;
+    let left = run(alloc, &["-i", "grid.in"], Given::of(text), 4000)?;
+    assert_eq!(rt; left.status, Status::Finished);
+    assert!(rt; left.table.taken().starts_with(FIRST_ROWS.as_bytes()));
+    assert!(rt; left.table.taken().ends_with(LAST_ROW.as_bytes()));
+    assert_eq!(rt; left.out.taken(), GRID_TOLD.as_bytes());
+    Ok(())
+}
+
+/// Rows are read by their numbers, and a point is found where it first stood.
+#[test]
+fn rows_are_read_by_number(rt: HostRuntime) -> Result<(), Fail> {
+    let alloc = rt.alloc();
+    let mut rows = RowList::with_capacity(alloc, 2)?;
+    rows.push(Row {
+        point: Decs::of(alloc, &[Dec::whole(5)])?,
+        values: Decs::of(alloc, &[Dec::whole(6)])?,
+    })?;
+    rows.push(Row {
+        point: Decs::of(alloc, &[Dec::whole(5)])?,
+        values: Decs::of(alloc, &[Dec::whole(7)])?,
+    })?;
+    assert_eq!(rt; rows.count(), 2);
+    assert_eq!(rt; rows.point(2), [Dec::whole(5)].as_slice());
+    assert_eq!(rt; rows.values(2), [Dec::whole(7)].as_slice());
+    assert_eq!(rt; rows.first(2), 1);
+    Ok(())
+}
