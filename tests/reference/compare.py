@@ -8,8 +8,8 @@ Each study is checked, and run where it is accepted; some of the others are run 
 folders that begin alike. Compared are standard output, the exit status, and the files that are in the folder then, byte
 for byte. Nothing may come on standard error, and no file may be made or changed by a check, or where the status is 2, 3
 or 4. With --keep, the folders of a case that differs are kept there, with a file `words`. With --alone, only the reference
-runs. At the end it is told how many cases had each status and each kind of refusal; a study that is accepted and doesn't
-run so far counts as `not run`. The exit status is 1 where a case differs.
+runs. At the end it is told how many cases had each status and each kind of refusal, and how often each method ended how; a
+study that is accepted and doesn't run so far counts as `not run`. The exit status is 1 where a case differs.
 """
 import argparse
 import collections
@@ -23,6 +23,8 @@ import sys
 import tempfile
 
 from form_texts import form_text
+from run_texts import run_text
+from study import read_study
 from study_texts import whole_study_text
 
 SECONDS = 120
@@ -39,8 +41,9 @@ class Case:
 
     def __init__(self, random):
         name = random.choice(STUDY_NAMES)
-        text = form_text(random) if random.random() < 0.25 else whole_study_text(random)
-        self.files, self.folders = {name: text}, [b"sub"]
+        (study_text,) = random.choices([form_text, run_text, whole_study_text], [20, 35, 45])
+        self.text = study_text(random)
+        self.files, self.folders = {name: self.text}, [b"sub"]
         self.check, self.run = self.right_words(random, name)
         self.is_run_anyhow = random.random() < 0.2
         chance = random.random()
@@ -173,13 +176,20 @@ def faults(words, ours, theirs):
     return wrong
 
 
-def kind_of(said):
-    """What a command's first line says of the study, in short; or none."""
+def kinds_of(said, case):
+    """What the text that a command prints says of the study, in short."""
     refused = re.match(rb"dakota: study refused: (\w+) at bytes (.*)", said)
     if refused:
-        return "not run" if refused.groups() == (b"Unsupported", b"0..0") else refused[1].decode()
-    accepted = re.match(rb"study accepted|<<<<< Study (finished|aborted)", said)
-    return accepted[0].decode().removeprefix("<<<<< Study ").removeprefix("study ") if accepted else None
+        yield "not run" if refused.groups() == (b"Unsupported", b"0..0") else refused[1].decode()
+    if said.startswith(b"study accepted"):
+        yield "accepted"
+    ended = re.match(rb"<<<<< Study (finished|aborted).*\n.*, (\d+) duplicate", said)
+    if ended:
+        method = read_study(case.text).method
+        name = method.name.split("_")[0] + (" to a final point" if "final_point" in method.values else "")
+        yield f"{name} {ended[1].decode()}"
+        if ended[2] != b"0":
+            yield f"{name} with duplicates"
 
 
 def compared(case, words, folders, arguments):
@@ -213,7 +223,7 @@ def tried(number, arguments, scratch):
         try:
             (said, status, *_), wrong = compared(case, words, folders, arguments)
             statuses.add(status)
-            kinds.add(kind_of(said))
+            kinds.update(kinds_of(said, case))
         except subprocess.TimeoutExpired as late:
             wrong = [f"no end within {SECONDS} seconds: {late.cmd[0]}"]
         all_wrong += [(words, it) for it in wrong]
@@ -221,7 +231,7 @@ def tried(number, arguments, scratch):
             keep(case, words, folders, number, arguments)
         for folder in folders:
             shutil.rmtree(folder)
-    return number, statuses, kinds - {None}, all_wrong
+    return number, statuses, kinds, all_wrong
 
 
 def read_arguments():

@@ -1,26 +1,84 @@
 #!/usr/bin/env python3
 """A second reading of the rules, for comparison with the proved program: the same command line, table and summary."""
+import itertools
 import os
 import sys
 
 from decimals import decimal_of, is_less, rosenbrock, text_of
 from study import TEXT_LIMIT, Refused, read_study
 
+# The points of a study, each as a list of whole numbers of its unit
+
+
+def quotient(a, b):
+    """a / b rounded to the nearest whole number, ties away from zero; b is above zero."""
+    whole, rest = divmod(abs(a), b)
+    if 2 * rest >= b:
+        whole += 1
+    return -whole if a < 0 else whole
+
+
+def between(first, last, part, parts):
+    """The number that lies `part` of so many parts behind the first one, on the way to the last."""
+    return first + quotient(part * (last - first), parts)
+
+
+def points_by_step(initial, step, num_steps):
+    for i in range(num_steps + 1):
+        yield [it + i * by for it, by in zip(initial, step)]
+
+
+def points_to_final(initial, final, num_steps):
+    yield initial
+    for i in range(1, num_steps + 1):
+        yield [between(*ends, i, num_steps) for ends in zip(initial, final)]
+
+
+def listed_points(numbers, n):
+    for place in range(0, len(numbers), n):
+        yield numbers[place : place + n]
+
+
+def centered_points(center, step, counts):
+    yield center
+    for j, count in enumerate(counts):
+        for o in [*range(-count, 0), *range(1, count + 1)]:
+            yield [*center[:j], center[j] + o * step[j], *center[j + 1 :]]
+
+
+def grid_points(lower, upper, partitions):
+    # In a product the last one varies fastest, so it is taken backwards.
+    axes = [[between(low, high, k, p) for k in range(p + 1)] for low, high, p in zip(lower, upper, partitions)]
+    for backwards in itertools.product(*reversed(axes)):
+        yield [*reversed(backwards)]
+
+
+def points_of(study):
+    (name, values), (_, initial, lower, upper) = study.method, study.variables
+    if name == "list_parameter_study":
+        return listed_points(values["list_of_points"], len(initial))
+    if name == "centered_parameter_study":
+        return centered_points(initial, values["step_vector"], values["steps_per_variable"])
+    if name == "multidim_parameter_study":
+        return grid_points(lower, upper, values["partitions"])
+    if "final_point" in values:
+        return points_to_final(initial, values["final_point"], values["num_steps"])
+    return points_by_step(initial, values["step_vector"], values["num_steps"])
+
+
 # A run
 
 
 def is_evaluated(study):
     """Whether a run of this study is there so far."""
-    is_stepped = study.method.name == "vector_parameter_study" and "step_vector" in study.method.values
-    return is_stepped and study.interface.is_direct and study.interface.rule[0] == "abort"
+    return study.method.name != "compass_search" and study.interface.is_direct and study.interface.rule[0] == "abort"
 
 
 def evaluate(study):
     """The rows (x1, x2, value), up to the first point that has no value, and whether there was none."""
     rows = []
-    for at in range(study.method.values["num_steps"] + 1):
-        units = zip(study.variables.initial, study.method.values["step_vector"])
-        point = [decimal_of(initial + at * step, study.unit) for initial, step in units]
+    for units in points_of(study):
+        point = [decimal_of(it, study.unit) for it in units]
         value = rosenbrock(*point)
         if value is None:
             return rows, False

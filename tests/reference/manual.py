@@ -1,6 +1,10 @@
 #!/usr/bin/env python3
-"""Checks that the manual has an entry for each keyword and each refused word of the program's table, that each example of
-examples/ is accepted by `-check` with the line that stands here, and that those that run so far run: manual.py [PROGRAM].
+"""Checks that the manual has an entry for each keyword and each refused word of the program's table, and the examples of
+examples/, by the second reading and by the program: manual.py [PROGRAM].
+
+Each example is accepted by `-check` with the line that stands here. Each that runs so far ends well with the table and the
+summary that stand beside it, NAME.table and NAME.summary, which were written by the second reading; each other one is
+refused. PROGRAM is `dakota` of this project if left out, where that was built; else the second reading alone is checked.
 
 It is no part of the gate.
 """
@@ -11,16 +15,17 @@ import sys
 import tempfile
 
 ROOT = os.path.dirname(os.path.dirname(os.path.dirname(os.path.abspath(__file__))))
+EXAMPLES = os.path.join(ROOT, "examples")
 
 ACCEPTED = {
     "vector.in": (2, 1, 3),
     "list.in": (2, 1, 2),
     "centered.in": (2, 1, 5),
     "grid.in": (2, 1, 81),
-    "final.in": (2, 1, 4),
+    "final.in": (2, 1, 5),
     "compass.in": (2, 1, 1000),
 }
-RUN = {"vector.in"}
+RUN = ACCEPTED.keys() - {"compass.in"}
 
 
 def table():
@@ -49,35 +54,60 @@ def faults_of_manual():
 
 
 def ran(program, *words):
+    """The status of a command, what it prints, and the bytes of the files that it makes."""
     with tempfile.TemporaryDirectory() as folder:
-        done = subprocess.run([program, *words], cwd=folder, stdin=subprocess.DEVNULL, stdout=subprocess.PIPE)
-        return done.returncode, done.stdout.decode()
+        done = subprocess.run([*program, *words], cwd=folder, stdin=subprocess.DEVNULL, stdout=subprocess.PIPE)
+        return done.returncode, done.stdout, {it: read(os.path.join(folder, it)) for it in os.listdir(folder)}
+
+
+def read(path):
+    with open(path, "rb") as it:
+        return it.read()
+
+
+def wanted_of(name):
+    """What a run of an example is to do."""
+    if name not in RUN:
+        return 3, b"dakota: study refused: Unsupported at bytes 0..0\n", {}
+    front = os.path.join(EXAMPLES, name.removesuffix(".in"))
+    return 0, read(f"{front}.summary"), {"t.dat": read(f"{front}.table")}
+
+
+def faults_of_files():
+    wanted = {*ACCEPTED, *(it.replace(".in", end) for it in RUN for end in (".table", ".summary"))}
+    for name in sorted(wanted ^ {*os.listdir(EXAMPLES)}):
+        yield f"examples/{name} isn't there" if name in wanted else f"examples/{name} has no line here"
 
 
 def faults_of_examples(program):
-    folder = os.path.join(ROOT, "examples")
-    for name in sorted(os.listdir(folder)):
-        if name not in ACCEPTED:
-            yield f"{name} has no line here"
-            continue
-        study = os.path.join(folder, name)
-        wanted = "study accepted: variables {}, responses {}, evaluations at most {}\n".format(*ACCEPTED[name])
-        told = ran(program, "-check", "-i", study)
-        if told != (0, wanted):
-            yield f"{name}: checked as {told}"
-        told = ran(program, "-i", study)
-        if (told[0] == 0) != (name in RUN):
-            yield f"{name}: ran as {told}"
-        if name not in RUN and told != (3, "dakota: study refused: Unsupported at bytes 0..0\n"):
-            yield f"{name}: refused as {told}"
+    for name, counts in ACCEPTED.items():
+        study = os.path.join(EXAMPLES, name)
+        line = "study accepted: variables {}, responses {}, evaluations at most {}\n".format(*counts)
+        for words, wanted in ((["-check"], (0, line.encode(), {})), ([], wanted_of(name))):
+            told = ran(program, *words, "-i", study)
+            for part, one, other in zip(("status", "standard output", "files"), told, wanted):
+                if one != other:
+                    yield f"{' '.join([*program, *words])} -i {name}: {part} {one}, and not {other}"
+
+
+def programs():
+    """The commands that are checked: the second reading, and the program where it is there."""
+    yield [sys.executable, "-S", os.path.join(ROOT, "tests/reference/dakota.py")]
+    if len(sys.argv) > 1:
+        yield [os.path.abspath(sys.argv[1])]
+    elif os.path.exists(os.path.join(ROOT, "crates/dakota/out/dakota")):
+        yield [os.path.join(ROOT, "dakota")]
 
 
 def main():
-    program = sys.argv[1] if len(sys.argv) > 1 else os.path.join(ROOT, "dakota")
-    faults = [*faults_of_manual(), *faults_of_examples(os.path.abspath(program))]
+    commands = [*programs()]
+    faults = [*faults_of_manual(), *faults_of_files()]
+    if not faults:
+        faults = [fault for it in commands for fault in faults_of_examples(it)]
     for fault in faults:
         print(f"manual: {fault}")
-    print(f"manual: {len(table())} words, {len(ACCEPTED)} examples, {len(faults)} faults")
+    by = "by the program and the second reading" if len(commands) > 1 else "by the second reading alone"
+    print(f"manual: {len(table())} words, {len(ACCEPTED)} examples {by}, {len(faults)} faults")
     return 1 if faults else 0
 
 

@@ -5,7 +5,8 @@ In a text with a fault, `[` and `]` stand around the fault's span, and are taken
 """
 import sys
 
-from decimals import number_of, text_of
+from dakota import points_of
+from decimals import decimal_of, number_of, text_of
 from study import Refused, read_study
 
 METHOD = "method vector_parameter_study num_steps = 2 step_vector = 0.5 0.5 "
@@ -163,6 +164,28 @@ ACCEPTED = [
     ("method list_parameter_study list_of_points 0100000*0 variables continuous_design 1 " + FORK + RESPONSES, (-28, 100000, None)),
     (with_variables(VARIABLES + "lower_bounds 1 1 ", LIST), (-28, 2, None)),
 ]
+# Bounds that set the unit, so that points are whole numbers, or whole tenths.
+WHOLE = VARIABLES + "upper_bounds 1e28 9 "
+TENTHS = VARIABLES + "upper_bounds 1e27 9 "
+POINTS = [
+    (with_variables(VARIABLES + "initial_point 1 -1 "), "1 -1, 1.5 -0.5, 2 0"),
+    (with_variables(WHOLE, "method vector_parameter_study num_steps 2 final_point 3 -5 "), "0 0, 2 -3, 3 -5"),
+    (with_variables(WHOLE, "method vector_parameter_study num_steps 3 final_point 4 -5 "), "0 0, 1 -2, 3 -3, 4 -5"),
+    (with_variables(TENTHS + "initial_point 1 -1 ", "method vector_parameter_study num_steps 4 final_point 0 1 "),
+     "1 -1, 0.7 -0.5, 0.5 0, 0.2 0.5, 0 1"),
+    (with_variables(VARIABLES + "initial_point 7 8 ", "method vector_parameter_study num_steps 0 final_point 3 -5 "), "7 8"),
+    (with_method("method vector_parameter_study num_steps 3 final_point 1 0 "),
+     "0 0, 0.3333333333333333333333333333 0, 0.6666666666666666666666666667 0, 1 0"),
+    (with_method("method list_parameter_study list_of_points 3*0 1 0 0.0 "), "0 0, 0 1, 0 0"),
+    (with_method(CENTERED), "0 0, -2 0, -1 0, 1 0, 2 0, 0 -2, 0 -1, 0 1, 0 2"),
+    (with_variables(VARIABLES + "initial_point 5 6 ", "method centered_parameter_study step_vector -1 0 steps_per_variable 2 1 "),
+     "5 6, 7 6, 6 6, 4 6, 3 6, 5 6, 5 6"),
+    (with_method("method centered_parameter_study step_vector 1 2 steps_per_variable 0 1 "), "0 0, 0 -2, 0 2"),
+    (with_variables(VARIABLES + "lower_bounds 0 -1 upper_bounds 1 1 ", "method multidim_parameter_study partitions 1 2 "),
+     "0 -1, 1 -1, 0 0, 1 0, 0 1, 1 1"),
+    (with_variables(VARIABLES + "initial_point 1e28 0 lower_bounds -3 7 upper_bounds 0 7 ",
+     "method multidim_parameter_study partitions 2 1 "), "-3 7, -1 7, 0 7, -3 7, -1 7, 0 7"),
+]
 NUMBERS = [
     ("0.10", "0.1"),
     (".5", "0.5"),
@@ -187,6 +210,12 @@ def outcome(text):
     return study.unit, study.limit, study.table
 
 
+def points(text):
+    """The points of a study, as they stand in a table."""
+    study = read_study(text)
+    return ", ".join(" ".join(text_of(decimal_of(it, study.unit)) for it in point) for point in points_of(study))
+
+
 def failed():
     for kind, marked in LEXICAL + GRAMMAR + STEPS_1_TO_4 + STEPS_5_AND_6 + STEPS_7_TO_12:
         text = marked.encode("latin-1")
@@ -197,6 +226,9 @@ def failed():
     for text, wanted in ACCEPTED:
         if outcome(text.encode()) != wanted:
             yield f"{text!r}: {outcome(text.encode())}, and not {wanted}"
+    for text, wanted in POINTS:
+        if points(text.encode()) != wanted:
+            yield f"{text!r}: {points(text.encode())}, and not {wanted}"
     for text, wanted in NUMBERS:
         number = number_of(text.encode())
         if (number and text_of(number)) != wanted:
