@@ -4,38 +4,14 @@ ghost use Rattle.dk_types.specs.Points.{size};
 ghost use Rattle.dk_types.specs.Sound.{IsSound};
 
 use super::texts::edited;
+use crate::rows::RowList;
 use dk_method::{Planning, has_points, plan_of};
 use dk_num::Dec;
 use dk_outside::source::TEXT_LIMIT;
 use dk_reader::read_study;
-use dk_types::{Planner, Rows, Study};
+use dk_types::{Planner, Study};
 use std::alloc::Global;
 use std::test::Fail;
-
-/// No rows, as before the first batch.
-struct NoRows;
-
-impl Rows for NoRows {
-    ghost use Rattle.std.specs.Prelude.{[]};
-
-    ghost rows = { λ _. [] };
-
-    fn count(&self) -> u32 {
-        0
-    }
-
-    fn point(&self, _row: u32) -> &[Dec] {
-        unreachable!()
-    }
-
-    fn values(&self, _row: u32) -> &[Dec] {
-        unreachable!()
-    }
-
-    fn first(&self, _row: u32) -> u32 {
-        unreachable!()
-    }
-}
 
 /// A plan of a study whose first batch is handed out, where its points are known from the beginning.
 fn begun(alloc: Global, study: &Study) -> Result<Option<Planning>, Fail>
@@ -46,7 +22,7 @@ fn begun(alloc: Global, study: &Study) -> Result<Option<Planning>, Fail>
         return Ok(None);
     }
     let mut planning = plan_of(alloc, study)?;
-    planning.next(&NoRows);
+    planning.next(&RowList::with_capacity(alloc, 0)?);
     Ok(Some(planning))
 }
 

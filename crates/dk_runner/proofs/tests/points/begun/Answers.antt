@@ -18,5 +18,6 @@ planned_all planned study is none batch =
 
 pub returns : goal.returns
 returns c =
-    planned_all c.next.new.self c.args.study.now (c.next.ensures.study ∙ ap (λ (p : Planned). p.study) c.in_ok-planning.ensures) c.next.ensures.before
-    (c.next.ensures.batch ∙ ap (λ (s : Study). rest s []) (ap (λ (p : Planned). p.study) c.in_ok-planning.ensures))
+    let study_is = ap (λ (p : Planned). p.study) c.in_ok-planning.ensures in
+    planned_all c.next.new.self c.args.study.now (c.next.ensures.study ∙ study_is) (c.next.ensures.before ∙ ap length c.in_ok-with_capacity.ensures)
+    (c.next.ensures.batch ∙ ap (λ (s : Study). rest s c.in_ok-with_capacity.field-0) study_is ∙ ap (rest c.args.study.now) c.in_ok-with_capacity.ensures)
