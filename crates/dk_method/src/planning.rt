@@ -13,8 +13,9 @@ use dk_types::{Method, Plan, Planner, Rows, Study, Way, Why};
 use std::alloc::{AllocError, Global};
 use std::marker::Model;
 
-/// A planner of a vector, list, centered or multidimensional study. It keeps the study and how many rows it was given,
-/// and no points: each is computed when it is asked for.
+/// A planner of a vector, list, centered or multidimensional study (`vector_parameter_study`, `list_parameter_study`,
+/// `centered_parameter_study`, `multidim_parameter_study`). It keeps the study and how many rows it was given, and no
+/// points: each is computed when it is asked for.
 #[derive(Drop)]
 pub struct Planning {
     study: Study,
@@ -34,7 +35,7 @@ impl Model for Planning {
     ghost invariant = { λ p. IsPlanned (record { study = p.study; before = p.before; count = p.count }) };
 }
 
-/// Whether a study's points are known from the beginning, as those of each method but a compass search.
+/// Whether a study's points are known from the beginning, as those of each method but `compass_search`.
 pub fn has_points(study: &Study) -> bool
     ensures { result ≡ has_points_lem study.now.method }
 {
@@ -47,7 +48,8 @@ pub fn has_points(study: &Study) -> bool
     }
 }
 
-/// A plan of a study, of which no batch is handed out yet. The study isn't a compass search.
+/// A plan of a study, of which no batch is handed out yet. The study's method isn't `compass_search`. Only want of memory
+/// is an error.
 pub fn plan_of(alloc: Global, study: &Study) -> Result<Planning, AllocError>
     requires { IsTrue (has_points_lem study.now.method) }
     ensures { IfOk result (λ planning. planning ≡ record { study = study.now; before = 0; count = 0 }) }
