@@ -1,0 +1,8 @@
+//! Rows of decimals of one width, in room that is made once.
+#![tactic(auto)]
+
+mod pool;
+#[cfg(test)]
+mod tests;
+
+pub use pool::{Pool, RowId};
