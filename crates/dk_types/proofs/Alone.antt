@@ -4,13 +4,13 @@ use Rattle.std.specs.Prelude.{slice_get}
 use Rattle.std.proofs.lemmas.Grind.{common_steps}
 use Rattle.dk_num.specs.Decimal.{Decimal}
 use Rattle.dk_types.specs.declared.study.Study.{Study}
-use Rattle.dk_types.specs.declared.study.Ending.{Ending}
 use Rattle.dk_types.specs.declared.study.Why.{Why}
 use Rattle.dk_types.specs.declared.rows.Row.{Row}
 use Rattle.dk_types.specs.Points.{point, size}
 use Rattle.dk_types.specs.Planned.{next, At, Over}
-use Rattle.dk_types.specs.Solo.{Solo, finished, aborted, goes_on, Child, with_row}
-use Rattle.dk_types.specs.Laws.{AnswersPoints}
+use Rattle.dk_types.specs.Answers.{Value}
+use Rattle.dk_types.specs.Solo.{Alone, finished, aborted, waits, goes_on, Answers, Verdict, with_row}
+use Rattle.dk_types.specs.Laws.{AnswersPoints, answer_in}
 use Rattle.dk_types.proofs.Once.{next_over, next_at, length_more}
 
 -- an item of a list with one more at its end
@@ -21,12 +21,12 @@ item_of (z ∷ xs) y zero x h = inl h
 item_of (z ∷ xs) y (suc i) x h = elim (item_of xs y i x h) [ inl k ↦ inl k | inr k ↦ inr (ap suc k.0, k.1) ]
 
 -- the rows so far are those of the first points
-record Answered (study : Study) (child : Child) (rows : List Row) : Type 0 where
+record Answered (study : Study) (answers : Answers) (rows : List Row) : Type 0 where
   points : (i : ℕ) (row : Row) → slice_get rows i ≡ Some row → row.point ≡ point study i
-  answers : (i : ℕ) (row : Row) → slice_get rows i ≡ Some row → child row.point ≡ Some row.values
+  values : (i : ℕ) (row : Row) → slice_get rows i ≡ Some row → answer_in study answers row.point ≡ Value row.values
 
-answered_none : (study : Study) (child : Child) → Answered study child []
-answered_none study child = record { points = λ i row h. absurd (cc); answers = λ i row h. absurd (cc) }
+answered_none : (study : Study) (answers : Answers) → Answered study answers []
+answered_none study answers = record { points = λ i row h. absurd (cc); values = λ i row h. absurd (cc) }
 
 -- a point comes next only where one is left
 record IsNext (study : Study) (rows : List Row) (p : List Decimal) : Type 0 where
@@ -47,25 +47,28 @@ none_left study rows why h = at (nat_lt (length rows) (size study)) refl
     at true e = let k = next_at study rows e in absurd (cc)
     at false e = λ l. grind (arith, common_steps)
 
-answered_more : (study : Study) (child : Child) (rows : List Row) (p v : List Decimal) → next study rows ≡ At p → child p ≡ Some v → Answered study child rows → Answered study child (with_row rows p v)
-answered_more study child rows p v e a was = record {
+answered_more : (study : Study) (answers : Answers) (rows : List Row) (p v : List Decimal) → next study rows ≡ At p → answer_in study answers p ≡ Value v →
+    Answered study answers rows → Answered study answers (with_row rows p v)
+answered_more study answers rows p v e a was = record {
   points = λ i row h. elim (item_of rows (record { point = p; values = v }) i row h) [
     | inl k ↦ was.points i row k
     | inr k ↦ ap (λ (r : Row). r.point) k.1 ∙ (is_next study rows p e).is ∙ ap (point study) (sym k.0)
   ];
-  answers = λ i row h. elim (item_of rows (record { point = p; values = v }) i row h) [
-    | inl k ↦ was.answers i row k
-    | inr k ↦ ap (λ (r : Row). child r.point) k.1 ∙ a ∙ ap (λ (r : Row). Some r.values) (sym k.1)
+  values = λ i row h. elim (item_of rows (record { point = p; values = v }) i row h) [
+    | inl k ↦ was.values i row k
+    | inr k ↦ ap (λ (r : Row). answer_in study answers r.point) k.1 ∙ a ∙ ap (λ (r : Row). Value r.values) (sym k.1)
   ];
 }
 
-all_from : (study : Study) (child : Child) (rows last : List Row) (ending : Ending) → Solo study child rows last ending →
-    length rows < size study + 1 → Answered study child rows → AnswersPoints study child last ending
-all_from study child _ _ _ (finished rows why e) few was = record { points = was.points; answers = was.answers; ends = (let n = none_left study rows why e in grind arith) }
-all_from study child _ _ _ (aborted rows p e n) few was =
-    let k = is_next study rows p e in record { points = was.points; answers = was.answers; ends = (k.left, sym (ap child k.is) ∙ n, refl, refl) }
-all_from study child _ _ _ (goes_on rows p v last ending e a s) few was =
-    all_from study child (with_row rows p v) last ending s (let k = is_next study rows p e in let l = length_more rows p v in omega arith) (answered_more study child rows p v e a was)
+all_from : (study : Study) (answers : Answers) (rows last : List Row) (verdict : Verdict) → Alone study answers rows last verdict →
+    length rows < size study + 1 → Answered study answers rows → AnswersPoints study answers last verdict
+all_from study answers _ _ _ (finished rows why e) few was = record { points = was.points; values = was.values; stands = (let n = none_left study rows why e in grind arith) }
+all_from study answers _ _ _ (aborted rows p attempts e a) few was =
+    let k = is_next study rows p e in record { points = was.points; values = was.values; stands = (k.left, sym (ap (answer_in study answers) k.is) ∙ a, refl) }
+all_from study answers _ _ _ (waits rows p attempt e a) few was =
+    let k = is_next study rows p e in record { points = was.points; values = was.values; stands = (k.left, sym (ap (answer_in study answers) k.is) ∙ a, k.is) }
+all_from study answers _ _ _ (goes_on rows p v last verdict e a s) few was =
+    all_from study answers (with_row rows p v) last verdict s (let k = is_next study rows p e in let l = length_more rows p v in omega arith) (answered_more study answers rows p v e a was)
 
-pub rows_are_points : (study : Study) (child : Child) (rows : List Row) (ending : Ending) → Solo study child [] rows ending → AnswersPoints study child rows ending
-rows_are_points study child rows ending s = all_from study child [] rows ending s (omega arith) (answered_none study child)
+pub rows_are_points : (study : Study) (answers : Answers) (rows : List Row) (verdict : Verdict) → Alone study answers [] rows verdict → AnswersPoints study answers rows verdict
+rows_are_points study answers rows verdict s = all_from study answers [] rows verdict s (omega arith) (answered_none study answers)

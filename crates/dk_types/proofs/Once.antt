@@ -1,58 +1,67 @@
--- A study ends, and in one way.
-use Rattle.std.proofs.Common.{◌≡◌, ℕ, zero, suc, ◌+◌, ◌≤◌, Bool, true, false, List, [], ◌∷◌, length, Option, Some, None, subst, sym, ap, ◌∙◌, refl, arith, length-append, nat_lt}
+-- A study comes to one thing, in one way; where a child answers each attempt, it ends.
+use Rattle.std.proofs.Common.{◌≡◌, ℕ, zero, suc, ◌+◌, ◌≤◌, Bool, true, false, List, [], ◌∷◌, length, Some, subst, sym, ap, ◌∙◌, refl, arith, length-append, nat_lt}
 use Rattle.std.proofs.lemmas.Grind.{common_steps}
 use Rattle.dk_num.specs.Decimal.{Decimal}
 use Rattle.dk_types.specs.declared.study.Study.{Study}
+use Rattle.dk_types.specs.declared.study.FailRule.{FailRule}
+use Rattle.dk_types.specs.declared.study.FailRule.TheVariants.{Abort, Retry, Recover}
 use Rattle.dk_types.specs.declared.study.Ending.{Ending}
 use Rattle.dk_types.specs.declared.study.Ending.TheVariants.{Finished, Aborted}
 use Rattle.dk_types.specs.declared.study.Why.{Why}
 use Rattle.dk_types.specs.declared.study.Why.TheVariants.{Complete}
+use Rattle.dk_types.specs.declared.entry.Said.{Said}
+use Rattle.dk_types.specs.declared.entry.Said.TheVariants.{Values, Failed}
 use Rattle.dk_types.specs.declared.rows.Row.{Row}
 use Rattle.dk_types.specs.Points.{point, size}
+use Rattle.dk_types.specs.Planned as planned
 use Rattle.dk_types.specs.Planned.{next, At, Over}
-use Rattle.dk_types.specs.Solo.{Solo, finished, aborted, goes_on, Child, with_row}
-use Rattle.dk_types.specs.Laws.{EndsOnce}
+use Rattle.dk_types.specs.Answers.{Answer, Value, Dead, Next, retries, given_up, by_attempt, answer_from}
+use Rattle.dk_types.specs.Solo.{Alone, finished, aborted, waits, goes_on, Answers, answers_of, Child, Verdict, Ended, Open, with_row}
+use Rattle.dk_types.specs.Laws.{ComesOnce, EndsOnce, answer_in}
+use Rattle.dk_types.specs.EntryLaws.{is_answered}
 
--- from these rows on it ends in no other way
-abbrev Ends : (study : Study) (child : Child) (rows : List Row) → List Row → Ending → Type 0
-Ends study child rows last ending = (others : List Row) (other : Ending) → Solo study child rows others other → (others ≡ last) × (other ≡ ending)
+-- what follows where a study comes from these rows to those others and that verdict: by what the next point's attempts
+-- come to
+abbrev pub TurnsBy : (study : Study) (answers : Answers) (rows : List Row) → List Decimal → List Row → Verdict → Answer → Type 0
+TurnsBy study answers rows p others other (Value v) = Alone study answers (with_row rows p v) others other
+TurnsBy study answers rows p others other (Dead attempts) = (others ≡ rows) × (other ≡ Ended (Aborted (length rows + 1) attempts))
+TurnsBy study answers rows p others other (Next attempt) = (others ≡ rows) × (other ≡ Open p attempt)
 
--- one step of an evaluation
-data Turn (study : Study) (child : Child) (rows others : List Row) (other : Ending) : Type 0 where
-  over : (why : Why) → next study rows ≡ Over why → others ≡ rows → other ≡ Finished why → Turn study child rows others other
-  dead : (p : List Decimal) → next study rows ≡ At p → child p ≡ None → others ≡ rows → other ≡ Aborted (length rows + 1) 1 → Turn study child rows others other
-  more : (p v : List Decimal) → next study rows ≡ At p → child p ≡ Some v → Solo study child (with_row rows p v) others other → Turn study child rows others other
+-- and by what comes next
+abbrev pub Turns : (study : Study) (answers : Answers) (rows : List Row) → List Row → Verdict → planned.Next → Type 0
+Turns study answers rows others other (At p) = TurnsBy study answers rows p others other (answer_in study answers p)
+Turns study answers rows others other (Over why) = (others ≡ rows) × (other ≡ Ended (Finished why))
 
-turn_of : (study : Study) (child : Child) (rows others : List Row) (other : Ending) → Solo study child rows others other → Turn study child rows others other
-turn_of study child _ _ _ (finished rows why e) = over why e refl refl
-turn_of study child _ _ _ (aborted rows p e n) = dead p e n refl refl
-turn_of study child _ _ _ (goes_on rows p v last ending e a s) = more p v e a s
+-- and it does follow
+turns : (study : Study) (answers : Answers) (rows others : List Row) (other : Verdict) → Alone study answers rows others other → Turns study answers rows others other (next study rows)
+turns study answers _ _ _ (finished rows why e) = subst (Turns study answers rows rows (Ended (Finished why))) (sym e) (refl, refl)
+turns study answers _ _ _ (aborted rows p attempts e a) =
+    let end = Ended (Aborted (length rows + 1) attempts) in
+    subst (Turns study answers rows rows end) (sym e) (subst (TurnsBy study answers rows p rows end) (sym a) (refl, refl))
+turns study answers _ _ _ (waits rows p attempt e a) =
+    subst (Turns study answers rows rows (Open p attempt)) (sym e) (subst (TurnsBy study answers rows p rows (Open p attempt)) (sym a) (refl, refl))
+turns study answers _ _ _ (goes_on rows p v last verdict e a s) =
+    subst (Turns study answers rows last verdict) (sym e) (subst (TurnsBy study answers rows p last verdict) (sym a) s)
 
-same_over : (study : Study) (child : Child) (rows others : List Row) (other : Ending) (why : Why) → next study rows ≡ Over why →
-    Turn study child rows others other → (others ≡ rows) × (other ≡ Finished why)
-same_over study child rows others other why e (over why' e' r f) = let k : why' ≡ why = cc in (r, f ∙ ap Finished k)
-same_over study child rows others other why e (dead p e' n r f) = absurd (cc)
-same_over study child rows others other why e (more p v e' a s) = absurd (cc)
+-- where no point is left
+pub turns_over : (study : Study) (answers : Answers) (rows others : List Row) (other : Verdict) (why : Why) → next study rows ≡ Over why →
+    Alone study answers rows others other → (others ≡ rows) × (other ≡ Ended (Finished why))
+turns_over study answers rows others other why e s = subst (Turns study answers rows others other) e (turns study answers rows others other s)
 
-same_dead : (study : Study) (child : Child) (rows others : List Row) (other : Ending) (p : List Decimal) → next study rows ≡ At p → child p ≡ None →
-    Turn study child rows others other → (others ≡ rows) × (other ≡ Aborted (length rows + 1) 1)
-same_dead study child rows others other p e n (over why e' r f) = absurd (cc)
-same_dead study child rows others other p e n (dead p' e' n' r f) = (r, f)
-same_dead study child rows others other p e n (more p' v e' a s) = let k : p ≡ p' = cc in absurd (let m : Some v ≡ None = sym a ∙ ap child (sym k) ∙ n in cc)
+-- where one is left, and its attempts come to this
+pub turns_by : (study : Study) (answers : Answers) (rows others : List Row) (other : Verdict) (p : List Decimal) (a : Answer) → next study rows ≡ At p → answer_in study answers p ≡ a →
+    Alone study answers rows others other → TurnsBy study answers rows p others other a
+turns_by study answers rows others other p a e h s =
+    subst (TurnsBy study answers rows p others other) h (subst (Turns study answers rows others other) e (turns study answers rows others other s))
 
-same_more : (study : Study) (child : Child) (rows last others : List Row) (ending other : Ending) (p v : List Decimal) → next study rows ≡ At p → child p ≡ Some v →
-    Ends study child (with_row rows p v) last ending → Turn study child rows others other → (others ≡ last) × (other ≡ ending)
-same_more study child rows last others ending other p v e a rest (over why e' r f) = absurd (cc)
-same_more study child rows last others ending other p v e a rest (dead p' e' n r f) = let k : p ≡ p' = cc in absurd (let m : Some v ≡ None = sym a ∙ ap child k ∙ n in cc)
-same_more study child rows last others ending other p v e a rest (more p' v' e' a' s) =
-    let k : p ≡ p' = cc in let m : Some v ≡ Some v' = sym a ∙ ap child k ∙ a' in let w : v ≡ v' = cc in
-    rest others other (subst (λ (x : List Decimal). Solo study child (with_row rows x v) others other) (sym k)
-    (subst (λ (y : List Decimal). Solo study child (with_row rows p' y) others other) (sym w) s))
-
-ends_once : (study : Study) (child : Child) (rows last : List Row) (ending : Ending) → Solo study child rows last ending → Ends study child rows last ending
-ends_once study child _ _ _ (finished rows why e) = λ others other s. same_over study child rows others other why e (turn_of study child rows others other s)
-ends_once study child _ _ _ (aborted rows p e n) = λ others other s. same_dead study child rows others other p e n (turn_of study child rows others other s)
-ends_once study child _ _ _ (goes_on rows p v last ending e a s) = λ others other t. same_more study child rows last others ending other p v e a (ends_once study child _ last ending s) (turn_of study child rows others other t)
+-- from any rows on a study comes to one thing only
+pub alone_once : (study : Study) (answers : Answers) (rows last others : List Row) (verdict other : Verdict) →
+    Alone study answers rows last verdict → Alone study answers rows others other → (others ≡ last) × (other ≡ verdict)
+alone_once study answers _ _ others _ other (finished rows why e) t = turns_over study answers rows others other why e t
+alone_once study answers _ _ others _ other (aborted rows p attempts e a) t = turns_by study answers rows others other p (Dead attempts) e a t
+alone_once study answers _ _ others _ other (waits rows p attempt e a) t = turns_by study answers rows others other p (Next attempt) e a t
+alone_once study answers _ _ others _ other (goes_on rows p v last verdict e a s) t =
+    alone_once study answers (with_row rows p v) last others verdict other s (turns_by study answers rows others other p (Value v) e a t)
 
 pub next_over : (study : Study) (rows : List Row) → nat_lt (length rows) (size study) ≡ false → next study rows ≡ Over Complete
 next_over study rows e = rw e refl
@@ -63,30 +72,80 @@ next_at study rows e = rw e refl
 pub length_more : (rows : List Row) (p v : List Decimal) → length (with_row rows p v) ≡ length rows + 1
 length_more rows p v = length-append rows (record { point = p; values = v } ∷ [])
 
--- an end from these rows on
-record SomeEnd (study : Study) (child : Child) (rows : List Row) : Type 0 where
+-- what a study comes to from these rows on
+record SomeEnd (study : Study) (answers : Answers) (rows : List Row) : Type 0 where
   last : List Row
-  ending : Ending
-  ends : Solo study child rows last ending
+  verdict : Verdict
+  comes : Alone study answers rows last verdict
 
 is_late : (m n k : ℕ) → n ≤ m + zero → nat_lt m n ≡ false
 is_late m n k h = grind (arith, common_steps)
 
-some_end : (turns : ℕ) (study : Study) (child : Child) (rows : List Row) → size study ≤ length rows + turns → SomeEnd study child rows
-some_end zero study child rows h = record { last = rows; ending = Finished Complete; ends = finished rows Complete (next_over study rows (is_late (length rows) (size study) 0 h)) }
-some_end (suc turns) study child rows h =
+-- so many points are left at most
+some_end : (turns : ℕ) (study : Study) (answers : Answers) (rows : List Row) → size study ≤ length rows + turns → SomeEnd study answers rows
+some_end zero study answers rows h =
+    record { last = rows; verdict = Ended (Finished Complete); comes = finished rows Complete (next_over study rows (is_late (length rows) (size study) 0 h)) }
+some_end (suc turns) study answers rows h =
     at (nat_lt (length rows) (size study)) refl
-    (λ v. some_end turns study child (with_row rows (point study (length rows)) v) (let l = length_more rows (point study (length rows)) v in omega arith))
+    (λ v. some_end turns study answers (with_row rows (point study (length rows)) v) (let l = length_more rows (point study (length rows)) v in omega arith))
   where
-    answered : (p : List Decimal) (said : Option (List Decimal)) → next study rows ≡ At p → child p ≡ said → ((v : List Decimal) → SomeEnd study child (with_row rows p v)) → SomeEnd study child rows
-    answered p None e a rest = record { last = rows; ending = Aborted (length rows + 1) 1; ends = aborted rows p e a }
-    answered p (Some v) e a rest = let r : SomeEnd study child (with_row rows p v) = rest v in record { last = r.last; ending = r.ending; ends = goes_on rows p v r.last r.ending e a r.ends }
+    answered : (p : List Decimal) (a : Answer) → next study rows ≡ At p → answer_in study answers p ≡ a → ((v : List Decimal) → SomeEnd study answers (with_row rows p v)) → SomeEnd study answers rows
+    answered p (Value v) e a rest = let r : SomeEnd study answers (with_row rows p v) = rest v in record { last = r.last; verdict = r.verdict; comes = goes_on rows p v r.last r.verdict e a r.comes }
+    answered p (Dead attempts) e a rest = record { last = rows; verdict = Ended (Aborted (length rows + 1) attempts); comes = aborted rows p attempts e a }
+    answered p (Next attempt) e a rest = record { last = rows; verdict = Open p attempt; comes = waits rows p attempt e a }
 
-    at : (b : Bool) → nat_lt (length rows) (size study) ≡ b → ((v : List Decimal) → SomeEnd study child (with_row rows (point study (length rows)) v)) → SomeEnd study child rows
-    at false e rest = record { last = rows; ending = Finished Complete; ends = finished rows Complete (next_over study rows e) }
-    at true e rest = answered (point study (length rows)) (child (point study (length rows))) (next_at study rows e) refl rest
+    at : (b : Bool) → nat_lt (length rows) (size study) ≡ b → ((v : List Decimal) → SomeEnd study answers (with_row rows (point study (length rows)) v)) → SomeEnd study answers rows
+    at false e rest = record { last = rows; verdict = Ended (Finished Complete); comes = finished rows Complete (next_over study rows e) }
+    at true e rest = answered (point study (length rows)) (answer_in study answers (point study (length rows))) (next_at study rows e) refl rest
+
+pub each_comes_once : (study : Study) (answers : Answers) → ComesOnce study answers
+each_comes_once study answers =
+    let e : SomeEnd study answers [] = some_end (size study) study answers [] (omega arith) in
+    record { rows = e.last; verdict = e.verdict; comes = e.comes; only = λ others other t. alone_once study answers [] e.last others e.verdict other e.comes t }
+
+-- where each attempt gives something, none is to be made next
+pub never_next : (rule : FailRule) (says : ℕ → Said) (left attempt : ℕ) → is_answered (answer_from rule (λ k. Some (says k)) left attempt) ≡ true
+never_next rule says zero attempt = by (says attempt) (given rule)
+  where
+    given : (r : FailRule) → is_answered (given_up r attempt) ≡ true
+    given Abort = refl
+    given (Retry times) = refl
+    given (Recover values) = refl
+
+    by : (s : Said) → is_answered (given_up rule attempt) ≡ true → is_answered (by_attempt attempt (given_up rule attempt) (Some s)) ≡ true
+    by (Values values) h = refl
+    by Failed h = h
+never_next rule says (suc left) attempt = by (says attempt) (never_next rule says left (attempt + 1))
+  where
+    by : (s : Said) → is_answered (answer_from rule (λ k. Some (says k)) left (attempt + 1)) ≡ true →
+        is_answered (by_attempt attempt (answer_from rule (λ k. Some (says k)) left (attempt + 1)) (Some s)) ≡ true
+    by (Values values) h = refl
+    by Failed h = h
+
+-- the verdict is an ending
+record IsEnded (verdict : Verdict) : Type 0 where
+  ending : Ending
+  is : verdict ≡ Ended ending
+
+-- where a child answers each attempt, a study doesn't wait
+ends_alone : (study : Study) (child : Child) (rows last : List Row) (verdict : Verdict) → Alone study (answers_of child) rows last verdict → IsEnded verdict
+ends_alone study child _ _ _ (finished rows why e) = record { ending = Finished why; is = refl }
+ends_alone study child _ _ _ (aborted rows p attempts e a) = record { ending = Aborted (length rows + 1) attempts; is = refl }
+ends_alone study child _ _ _ (waits rows p attempt e a) =
+    let rule = study.interface.rule in absurd (let h : true ≡ false = sym (never_next rule (child p) (retries rule) 1) ∙ ap is_answered a in cc)
+ends_alone study child _ _ _ (goes_on rows p v last verdict e a s) = ends_alone study child (with_row rows p v) last verdict s
+
+-- endings are one where their verdicts are
+pub same_ending : (one other : Ending) → Ended one ≡ Ended other → one ≡ other
+same_ending one other h = cc
 
 pub each_ends_once : (study : Study) (child : Child) → EndsOnce study child
 each_ends_once study child =
-    let e : SomeEnd study child [] = some_end (size study) study child [] (omega arith) in
-    record { rows = e.last; ending = e.ending; ends = e.ends; only = ends_once study child [] e.last e.ending e.ends }
+    let c : ComesOnce study (answers_of child) = each_comes_once study (answers_of child) in
+    let e : IsEnded c.verdict = ends_alone study child [] c.rows c.verdict c.comes in
+    record {
+      rows = c.rows;
+      ending = e.ending;
+      ends = subst (Alone study (answers_of child) [] c.rows) e.is c.comes;
+      only = λ others other t. let k = c.only others (Ended other) t in (k.0, same_ending other e.ending (k.1 ∙ e.is));
+    }

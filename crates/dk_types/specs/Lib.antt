@@ -3,7 +3,11 @@ pub mod Limits
 pub mod Labels
 pub mod Sound
 pub mod Planned
+pub mod Entries
+pub mod Answers
+pub mod Cards
 pub mod Solo
 pub mod Laws
+pub mod EntryLaws
 pub mod Best
 pub mod Texts

@@ -1,13 +1,64 @@
 //! Laws of the definitions. Each is the contract of a function that does nothing.
-ghost use Rattle.dk_types.specs.Laws.{EachStudyEndsOnce, RowsAreThePoints};
+ghost use Rattle.dk_types.specs.Laws.{EachStudyComesOnce, EachStudyEndsOnce, RowsAreThePoints};
+ghost use Rattle.dk_types.specs.EntryLaws.{OthersKeepTheirAnswer, AnsweredStays, NextIsTheNextAttempt, CardsSayTheSame, EachCardsHaveEntries, DecidedStays, RowsStay, DecidedAlike, DecidedAsAlone};
+
+/// For each study, and whatever the attempts gave, there is just one list of rows and one verdict.
+pub fn each_study_comes_once()
+    ensures { EachStudyComesOnce }
+{}
 
 /// For each study and child there is just one list of rows and one ending.
 pub fn each_study_ends_once()
     ensures { EachStudyEndsOnce }
 {}
 
-/// Row i has the study's point i and the child's answer to it; a study that finished has a row for each of its
-/// points, and one that was aborted has none from the first point on that has no values.
+/// Row i has the study's point i and what the attempts of this point come to. A study that finished has a row for each
+/// of its points; one that was aborted, or waits for an attempt, has none from the first point on that has no values.
 pub fn rows_are_the_points()
     ensures { RowsAreThePoints }
+{}
+
+/// An attempt of one point changes no other point's answer.
+pub fn others_keep_their_answer()
+    ensures { OthersKeepTheirAnswer }
+{}
+
+/// Under each rule an answered point stays answered, and so, whatever attempts are added.
+pub fn answered_stays()
+    ensures { AnsweredStays }
+{}
+
+/// What is to be made next of a point under any rule is its next attempt.
+pub fn next_is_the_next_attempt()
+    ensures { NextIsTheNextAttempt }
+{}
+
+/// Cards that sum up entries say of each attempt what these say.
+pub fn cards_say_the_same()
+    ensures { CardsSayTheSame }
+{}
+
+/// Cards of distinct points sum up a well-formed list of entries.
+pub fn each_cards_have_entries()
+    ensures { EachCardsHaveEntries }
+{}
+
+/// Once a study is decided, its rows and its ending are kept, whatever attempts are added.
+pub fn decided_stays()
+    ensures { DecidedStays }
+{}
+
+/// Its rows are kept in any case.
+pub fn rows_stay()
+    ensures { RowsStay }
+{}
+
+/// Attempts that agree decide a study alike.
+pub fn decided_alike()
+    ensures { DecidedAlike }
+{}
+
+/// Attempts that gave what a child gives decide a study as the child does.
+pub fn decided_as_alone()
+    ensures { DecidedAsAlone }
 {}

@@ -2,6 +2,7 @@
 #![tactic(auto)]
 
 mod copies;
+pub mod entry;
 pub mod laws;
 pub mod lists;
 pub mod planner;
@@ -11,6 +12,7 @@ pub mod study;
 mod tests;
 
 pub use dk_outside::{Text, Words};
+pub use entry::{Entry, Outcome, Said};
 pub use lists::{Counts, Decs, Labels, Units};
 pub use planner::{Plan, Planner};
 pub use rows::{Row, Rows};

@@ -1,0 +1,4 @@
+pub mod Lists
+pub mod Placed
+pub mod Tried
+pub mod Read

@@ -1,0 +1,8 @@
+//! The evaluation cache: a book of cards, one for each point that was attempted.
+#![tactic(auto)]
+
+pub mod book;
+#[cfg(test)]
+mod tests;
+
+pub use book::{Answer, Book, CardId};

@@ -1,0 +1,26 @@
+// Attempts at an evaluation, and what they gave.
+use crate::Decs;
+use dk_num::Dec;
+
+/// What an attempt gave, lent: one value a response, or that it failed.
+#[derive(Clone, Copy)]
+pub enum Outcome<'a> {
+    Values(&'a [Dec]),
+    Failed,
+}
+
+/// What an attempt gave, kept: one value a response, or that it failed.
+#[derive(Drop)]
+pub enum Said {
+    Values(Decs),
+    Failed,
+}
+
+/// An attempt that was made: its point, one decimal a variable; its number among the attempts of this point, from 1;
+/// and what it gave.
+#[derive(Drop)]
+pub struct Entry {
+    pub point: Decs,
+    pub attempt: u32,
+    pub said: Said,
+}
