@@ -1,0 +1,5 @@
+pub mod BestRows
+pub mod LookedUp
+pub mod Parts
+pub mod Repeated
+pub mod Told
