@@ -1,5 +1,5 @@
 -- Batches of points, evaluated one after another.
-use Rattle.std.proofs.Common.{◌≡◌, ℕ, ◌+◌, ◌-◌, ◌<◌, ◌≤◌, List, [], ◌∷◌, ◌++◌, length, take, Some, None, Bool, true, false, if◌then◌else◌, refl, subst, sym, ap, ◌∙◌, arith, append_assoc, length-append, nat_lt}
+use Rattle.std.proofs.Common.{◌≡◌, ℕ, ◌+◌, ◌-◌, ◌<◌, ◌≤◌, List, [], ◌∷◌, ◌++◌, length, take, Some, Bool, true, false, if◌then◌else◌, refl, subst, sym, ap, ◌∙◌, arith, append_assoc, length-append, nat_lt}
 use Rattle.std.specs.Prelude.{slice_get}
 use Rattle.std.proofs.lemmas.Grind.{common_steps}
 use Rattle.std.proofs.lemmas.List.{append-nil, length-map, map-append, take_more, take_all, length-take}
@@ -7,18 +7,20 @@ use Rattle.std.proofs.lemmas.List.FromFn.{length-map-range_with_len, get_or-map-
 use Rattle.std.proofs.lemmas.Option.{get_or_from_slice_get, slice_get_within}
 use Rattle.dk_num.specs.Decimal.{Decimal}
 use Rattle.dk_types.specs.declared.study.Study.{Study}
+use Rattle.dk_types.specs.declared.study.Ending.{Ending}
 use Rattle.dk_types.specs.declared.study.Ending.TheVariants.{Aborted}
 use Rattle.dk_types.specs.declared.study.Why.{Why}
 use Rattle.dk_types.specs.declared.rows.Row.{Row}
 use Rattle.dk_types.specs.declared.planner.Plan.TheVariants.{Batch, Finished as Planned_Finished}
 use Rattle.dk_types.specs.Points.{point, size}
 use Rattle.dk_types.specs.Planned.{At, Over, Next, next, rest, plan, plan_by, Answers, AnswersLast}
-use Rattle.dk_types.specs.Solo.{Solo, aborted, goes_on, Child}
+use Rattle.dk_types.specs.Answers.{Value, Dead, answer_by}
+use Rattle.dk_types.specs.Solo.{Solo, aborted, goes_on, Child, answers_of, Ended}
 use Rattle.dk_types.proofs.Once.{next_at}
 use Rattle.dk_types.specs.Planned.{points_from}
 use Rattle.dk_types.specs.declared.study.Why.TheVariants.{Complete}
 use Rattle.dk_method.specs.Plans.{Planned}
-use Rattle.dk_runner.specs.Evaluated.{LeadsOn}
+use Rattle.dk_runner.specs.Evaluated.{LeadsOn, GetsRow, EndsStudy}
 
 pub leads_itself : (study : Study) (child : Child) (rows : List Row) → LeadsOn study child rows rows
 leads_itself study child rows = record { on = λ last ending solo. solo }
@@ -34,16 +36,15 @@ next_point study rows n count left =
 
 -- a point with values is a row
 one_row : (study : Study) (child : Child) (rows more : List Row) (n : ℕ) (p v : List Decimal) →
-    length rows ≡ n → n < size study → p ≡ point study n → Some v ≡ child p → more ≡ rows ++ record { point = p; values = v } ∷ [] → LeadsOn study child rows more
+    length rows ≡ n → n < size study → p ≡ point study n → answer_by study.interface.rule (answers_of child p) ≡ Value v → more ≡ rows ++ record { point = p; values = v } ∷ [] → LeadsOn study child rows more
 one_row study child rows more n p v count left is answer pushed = record {
-  on = λ last ending solo. goes_on rows p v last ending (next_point study rows n count left ∙ ap At (sym is)) (sym answer) (subst (λ (l : List Row). Solo study child l last ending) pushed solo);
+  on = λ last ending solo. goes_on rows p v last (Ended ending) (next_point study rows n count left ∙ ap At (sym is)) answer (subst (λ (l : List Row). Solo study child l last ending) pushed solo);
 }
 
 -- a point without values ends the study
-stopped : (study : Study) (child : Child) (rows : List Row) (n : ℕ) (p : List Decimal) →
-    length rows ≡ n → n < size study → p ≡ point study n → None ≡ child p → Solo study child rows rows (Aborted (n + 1) 1)
-stopped study child rows n p count left is answer =
-    subst (λ (m : ℕ). Solo study child rows rows (Aborted (m + 1) 1)) count (aborted rows p (next_point study rows n count left ∙ ap At (sym is)) (sym answer))
+stopped : (study : Study) (child : Child) (rows : List Row) (n : ℕ) (p : List Decimal) (attempts : ℕ) →
+    length rows ≡ n → n < size study → p ≡ point study n → answer_by study.interface.rule (answers_of child p) ≡ Dead attempts → Solo study child rows rows (Aborted (length rows + 1) attempts)
+stopped study child rows n p attempts count left is answer = aborted rows p attempts (next_point study rows n count left ∙ ap At (sym is)) answer
 
 -- a point of what is left
 pub record IsLeftPoint (study : Study) (old : List Row) (k : ℕ) (p : List Decimal) : Type 0 where
@@ -87,31 +88,36 @@ along_count study child old rows k most was =
     let b = sym (length-map was.answers.behind (λ (r : Row). r.point)) ∙ ap length was.answers.points ∙ length-take k (rest study old) in
     omega arith
 
-pub along_more : (study : Study) (child : Child) (old rows more : List Row) (k : ℕ) (p v : List Decimal) → slice_get (rest study old) k ≡ Some p → Some v ≡ child p →
-    more ≡ rows ++ record { point = p; values = v } ∷ [] → IsAlong study child old k rows → IsAlong study child old (k + 1) more
-along_more study child old rows more k p v h answer pushed was =
-    let inside : k < length (rest study old) = slice_get_within (rest study old) k p h in
-    let is = left_point study old k p h in
+-- a point of the batch got its row
+pub along_more : (study : Study) (child : Child) (old rows more : List Row) (k : ℕ) (p q : List Decimal) → p ≡ q → slice_get (rest study old) k ≡ Some q →
+    GetsRow study child p rows more → IsAlong study child old k rows → IsAlong study child old (k + 1) more
+along_more study child old rows more k p q same h gets was =
+    let at : slice_get (rest study old) k ≡ Some p = h ∙ ap Some (sym same) in
+    let inside : k < length (rest study old) = slice_get_within (rest study old) k p at in
+    let is = left_point study old k p at in
     let count = along_count study child old rows k (omega arith) was in
-    let row : Row = record { point = p; values = v } in
+    let row : Row = record { point = p; values = gets.values } in
     record {
       answers = record {
         behind = was.answers.behind ++ row ∷ [];
-        split = pushed ∙ ap (λ l. l ++ row ∷ []) was.answers.split ∙ append_assoc old was.answers.behind (row ∷ []);
+        split = gets.rows ∙ ap (λ l. l ++ row ∷ []) was.answers.split ∙ append_assoc old was.answers.behind (row ∷ []);
         points = map-append (λ (r : Row). r.point) was.answers.behind (row ∷ []) ∙ ap (λ l. l ++ p ∷ []) was.answers.points
-            ∙ sym (take_more (rest study old) k p inside ∙ ap (λ q. take k (rest study old) ++ q ∷ []) (get_or_from_slice_get (rest study old) k p p h));
+            ∙ sym (take_more (rest study old) k p inside ∙ ap (λ x. take k (rest study old) ++ x ∷ []) (get_or_from_slice_get (rest study old) k p p at));
       };
-      leads = leads_both study child old rows more was.leads (one_row study child rows more (length old + k) p v count is.within is.is answer pushed);
+      leads = leads_both study child old rows more was.leads (one_row study child rows more (length old + k) p gets.values count is.within is.is gets.answer gets.rows);
     }
 
--- a point without values ends the study with the rows so far
-pub along_stopped : (study : Study) (child : Child) (old rows : List Row) (k number : ℕ) (p : List Decimal) → slice_get (rest study old) k ≡ Some p → None ≡ child p →
-    number ≡ (length old + k) + 1 → IsAlong study child old k rows → Solo study child old rows (Aborted number 1)
-along_stopped study child old rows k number p h answer number_is was =
-    let inside : k < length (rest study old) = slice_get_within (rest study old) k p h in
-    let is = left_point study old k p h in
+-- a point of the batch ends the study with the rows so far
+pub along_ended : (study : Study) (child : Child) (old rows more : List Row) (k : ℕ) (p q : List Decimal) (ending : Ending) → p ≡ q → slice_get (rest study old) k ≡ Some q →
+    EndsStudy study child p rows more ending → IsAlong study child old k rows → Solo study child old more ending
+along_ended study child old rows more k p q ending same h ends was =
+    let at : slice_get (rest study old) k ≡ Some p = h ∙ ap Some (sym same) in
+    let inside : k < length (rest study old) = slice_get_within (rest study old) k p at in
+    let is = left_point study old k p at in
     let count = along_count study child old rows k (omega arith) was in
-    was.leads.on rows (Aborted number 1) (subst (λ (n : ℕ). Solo study child rows rows (Aborted n 1)) (sym number_is) (stopped study child rows (length old + k) p count is.within is.is answer))
+    let stops : Solo study child old rows (Aborted (length rows + 1) ends.attempts)
+    = was.leads.on rows (Aborted (length rows + 1) ends.attempts) (stopped study child rows (length old + k) p ends.attempts count is.within is.is ends.answer) in
+    subst (λ (l : List Row). Solo study child old l ending) (sym ends.rows) (subst (λ (e : Ending). Solo study child old rows e) (sym ends.ending_is) stops)
 
 -- behind its last point a batch has all its rows
 pub along_all : (study : Study) (child : Child) (old rows : List Row) (k : ℕ) → length (rest study old) ≤ k → IsAlong study child old k rows →

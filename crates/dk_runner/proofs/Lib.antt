@@ -1,10 +1,7 @@
 pub mod Accepts
-pub mod BestRows
 pub mod Complete
 pub mod Decided
 pub mod Evaluations
-pub mod Parts
-pub mod Repeated
 pub mod Reported
 pub mod Saying
 pub mod Told
@@ -12,3 +9,6 @@ pub mod WordsSorted
 pub mod WordsTold
 pub mod CheckTold
 pub mod WordsOrder
+pub mod Pooled
+pub mod Settling
+pub mod SoFar

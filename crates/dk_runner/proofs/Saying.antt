@@ -1,15 +1,10 @@
 -- What a finished buffer has said.
-use Rattle.std.proofs.Common.{ℕ, List, [], inl, inr, Option, Some, None}
+use Rattle.std.proofs.Common.{ℕ, List, inl, inr, Option, Some, None}
 use Rattle.std.specs.Prelude.{Result, Ok, Err}
 use Rattle.dk_outside.specs.Sinks.{Held, Grows, GrowsByFront}
-use Rattle.dk_outside.specs.Flows.{Pending, Flow, flow, CarriesOn, IsReady, Empties, Arrives}
+use Rattle.dk_outside.specs.Flows.{Arrives}
 use Rattle.dk_outside.specs.declared.Failed.{Failed}
 use Rattle.dk_runner.specs.Headline.{Says, OnlyGrows}
-
--- a text that was put into a new buffer arrives
-pub arrives : (old new : Option Held) (n m : ℕ) (fresh : Pending) (now : Flow) (result : Result (Unit {0}) Failed) (text : List ℕ) →
-    IsReady fresh → CarriesOn (flow old n fresh) now text → Empties now new m result → Arrives old n new m result text
-arrives old new n m fresh now result text ready put sent = sent.arrives old n text (put.on old n [] (ready.nothing old n))
 
 pub says : (old new : Option Held) (n m : ℕ) (result : Result (Unit {0}) Failed) (text : List ℕ) → Arrives old n new m result text → Says old new n m text
 says old new n m (Ok u) text h = inl h.written

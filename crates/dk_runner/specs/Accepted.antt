@@ -3,8 +3,6 @@ use Rattle.std.specs.Prelude.{◌≡◌, ℕ, ◌<◌, ◌≤◌, Bool, true, fa
 use Rattle.dk_types.specs.declared.study.Study.{Study}
 use Rattle.dk_types.specs.declared.study.Driver.{Driver}
 use Rattle.dk_types.specs.declared.study.Driver.TheVariants.{Direct}
-use Rattle.dk_types.specs.declared.study.FailRule.{FailRule}
-use Rattle.dk_types.specs.declared.study.FailRule.TheVariants.{Abort}
 use Rattle.dk_method.specs.Plans.{has_points}
 use Rattle.dk_reader.specs.Reading.{Reads, HasFault}
 use Rattle.dk_reader.specs.declared.fault.StudyFault.{StudyFault}
@@ -16,14 +14,9 @@ abbrev pub is_built_driver : Driver → Bool
 is_built_driver Direct = true
 is_built_driver _ = false
 
--- an evaluation without a value ends the study
-abbrev pub is_built_rule : FailRule → Bool
-is_built_rule Abort = true
-is_built_rule _ = false
-
 -- the studies that are evaluated so far: those of the four methods whose points are known from the beginning
 abbrev pub is_built : Study → Bool
-is_built study = has_points study.method && is_built_driver study.interface.driver && is_built_rule study.interface.rule
+is_built study = has_points study.method && is_built_driver study.interface.driver
 
 -- the text has at most 1,048,576 bytes and says this study, which is one of those that are evaluated
 pub record Accepts (text : List ℕ) (study : Study) : Type 0 where

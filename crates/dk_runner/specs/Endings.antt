@@ -9,7 +9,8 @@ use Rattle.dk_types.specs.Texts.{table, summary}
 use Rattle.dk_runner.specs.Words.{IsRun, Misused}
 use Rattle.dk_runner.specs.Accepted.{Accepts, Refused, at_beginning}
 use Rattle.dk_runner.specs.Lines.{line, status_of}
-use Rattle.dk_runner.specs.Headline.{Written, BreaksTable, BreaksSummary, Says, HasTable, HasFront}
+use Rattle.dk_report.specs.Tables.{HasTable, HasFront}
+use Rattle.dk_runner.specs.Headline.{Written, BreaksTable, BreaksSummary, Says}
 use Rattle.dk_runner.specs.declared.status.Status.{Status}
 use Rattle.dk_runner.specs.declared.status.Status.TheVariants.{Finished, Aborted, Usage, StudyRefused, SourceFault, SinkFault, NoMemory}
 use Rattle.dk_reader.specs.declared.fault.StudyKind.{StudyKind}

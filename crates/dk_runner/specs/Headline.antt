@@ -1,12 +1,13 @@
 -- What a run has written, and why it ended so.
-use Rattle.std.specs.Prelude.{◌≡◌, ◌⊎◌, ℕ, List, [], ◌++◌, Option, Some, None, IfSome, Result, MatchResult}
+use Rattle.std.specs.Prelude.{◌≡◌, ◌⊎◌, ℕ, List, [], Option, Some, IfSome}
 use Rattle.dk_outside.specs.Causes.{Rose}
-use Rattle.dk_outside.specs.Sinks.{Held, Keeps, Grows, GrowsByFront, begun_with, with_more}
+use Rattle.dk_outside.specs.Sinks.{Held, Grows, GrowsByFront, with_more}
 use Rattle.dk_types.specs.declared.study.Study.{Study}
 use Rattle.dk_types.specs.declared.study.Ending.{Ending}
 use Rattle.dk_types.specs.declared.rows.Row.{Row}
 use Rattle.dk_types.specs.Solo.{Solo, rosenbrock_child}
 use Rattle.dk_types.specs.Texts.{table, summary}
+use Rattle.dk_report.specs.Tables.{HasTable, HasFront}
 use Rattle.dk_runner.specs.Accepted.{Accepts, Refused}
 use Rattle.dk_runner.specs.Lines.{status_of}
 use Rattle.dk_runner.specs.declared.status.Status.{Status}
@@ -17,21 +18,6 @@ use Rattle.dk_reader.specs.declared.fault.StudyFault.{StudyFault}
 pub record Evaluates (text : List ℕ) (study : Study) (rows : List Row) (ending : Ending) : Type 0 where
   pub accepts : Accepts text study
   pub alone : Solo study rosenbrock_child [] rows ending
-
--- the sink was begun with the table's name and has taken these bytes and nothing else, where the study asks for one
-abbrev pub HasTable : Study → List ℕ → (old new : Option Held) → Type 0
-HasTable study bytes old new = elim study.table [ None ↦ Keeps old new | Some name ↦ IfSome old (λ _. new ≡ Some (begun_with name bytes)) ]
-
--- it holds what it held, or was begun and has taken a front of these bytes
-pub record HasFront (study : Study) (bytes : List ℕ) (old new : Option Held) : Type 0 where
-  pub front : List ℕ
-  pub rest : List ℕ
-  pub whole : front ++ rest ≡ bytes
-  pub holds : Keeps old new ⊎ HasTable study front old new
-
--- the whole table at Ok, and no more than a front of it at Err
-abbrev pub WritesTable : {E : Type 0} → Study → List ℕ → (old new : Option Held) → Result (Unit {0}) E → Type 0
-WritesTable study bytes old new result = MatchResult result (λ _. HasTable study bytes old new) (λ _. HasFront study bytes old new)
 
 -- the table and the summary are written whole
 pub record Written (text : List ℕ) (status : Status) (table_old table_new out_old out_new : Option Held) : Type 0 where

@@ -1,5 +1,6 @@
 pub mod Words
 pub mod Sorting
+pub mod Pools
 pub mod Evaluated
 pub mod Accepted
 pub mod Lines

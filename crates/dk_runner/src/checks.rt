@@ -9,13 +9,13 @@ ghost use Rattle.dk_runner.specs.Checked.{RefusedFor, TellsAccepted, BreaksAccep
 ghost use Rattle.dk_reader.specs.declared.fault.StudyFault.{StudyFault};
 
 use crate::refusal::say;
-use crate::summary::put_number;
 use crate::words::usage_of_check;
 use crate::{Span, Status, StudyFault, StudyKind, Which};
 use dk_outside::source::{TextFault, read_text};
 use dk_outside::{Buffer, Failed, Sink, Source};
 use dk_reader::laws::each_text_says;
 use dk_reader::{ReadRefusal, read_study};
+use dk_report::put_number;
 use dk_types::Study;
 use std::alloc::Global;
 

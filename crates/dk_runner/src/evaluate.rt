@@ -1,120 +1,183 @@
-// The evaluation of a study, one point after another.
-ghost use Rattle.std.specs.Prelude.{◌≡◌, ◌+◌, ◌-◌, ◌<◌, ◌≤◌, ◌^◌, [], length, slice_get, IfOk, Some};
-ghost use Rattle.dk_types.specs.Points.{size, point};
-ghost use Rattle.dk_types.specs.Planned.{rest, IsInBatch};
+// The evaluation of a study, one point after another, over a book of attempts.
+ghost use Rattle.std.specs.Prelude.{◌≡◌, ◌+◌, ◌<◌, ◌≤◌, [], length, IfOk, None, true};
+ghost use Rattle.dk_types.specs.Planned.{rest};
 ghost use Rattle.dk_types.specs.Sound.{IsSound};
-ghost use Rattle.dk_types.specs.Best.{duplicates};
-ghost use Rattle.dk_types.specs.Solo.{Solo, rosenbrock_child};
-ghost use Rattle.dk_runner.specs.Evaluated.{IsEvaluated, EndsBatch};
+ghost use Rattle.dk_types.specs.Solo.{Solo, Child};
+ghost use Rattle.dk_method.specs.Plans.{has_points};
+ghost use Rattle.dk_report.specs.Widths.{HaveWidths};
+ghost use Rattle.dk_runner.specs.Evaluated.{IsSoFar, EndsBatch, EndsPoint, TakesNumber};
 
-use crate::duplicates::duplicate_count;
-use crate::rows::RowList;
-use dk_method::plan_of;
-use dk_num::{Dec, rosenbrock};
-use dk_types::{Decs, Ending, Plan, Planner, Row, Study};
+use crate::evaluator::Evaluator;
+use crate::rows::RowPool;
+use crate::settle::settle;
+use dk_book::{Book, CardId};
+use dk_method::{Planning, plan_of};
+use dk_num::Dec;
+use dk_types::{Ending, Plan, Planner, Rows, Study};
 use std::alloc::{AllocError, Global};
 
-/// The rows of a study, how it ended, and how many of the rows have the point of an earlier one.
+/// The rows of a study, and how it ended.
 #[derive(Drop)]
 pub struct Ran {
-    pub rows: RowList,
+    pub rows: RowPool,
     pub ending: Ending,
-    pub duplicates: usize,
 }
 
-/// Evaluates the points of a study, one after another, up to the first that has no value.
-pub fn evaluate(alloc: Global, study: &Study) -> Result<Ran, AllocError>
-    requires { IsEvaluated study.now }
-    ensures alone { IfOk result (λ ran. Solo study.now rosenbrock_child [] ran.rows ran.ending) }
-    ensures repeated { IfOk result (λ ran. ran.duplicates ≡ duplicates ran.rows) }
+/// An evaluation: the attempts that were made, the rows so far, for each card the number of the first row with its
+/// point (0 where there is none), and room for a point and for its values.
+#[derive(Drop)]
+struct Evaluation {
+    book: Book,
+    rows: RowPool,
+    firsts: Vec<u32>,
+    point: Vec<Dec>,
+    values: Vec<Dec>,
+}
+
+/// Evaluates the points of a study, one after another, up to the first that has no values under the study's rule. A
+/// point that stood before is answered from the book. All memory is taken before the first evaluation.
+pub fn evaluate<E: Evaluator>(
+    alloc: Global,
+    study: &Study,
+    evaluator: &E,
+) -> Result<Ran, AllocError>
+    requires sound { IsSound study.now }
+    requires points { has_points study.now.method ≡ true }
+    requires responses { E.responses evaluator.now ≡ length study.now.responses.labels }
+    ensures alone { IfOk result (λ ran. Solo study.now (E.child evaluator.now) [] ran.rows.rows ran.ending) }
+    ensures widths { IfOk result (λ ran. HaveWidths study.now ran.rows.rows) }
 {
-    let mut rows = RowList::with_capacity(alloc, study.limit)?;
-    let ending = evaluate_batches(alloc, study, &mut rows)?;
-    let duplicates = duplicate_count(alloc, rows.items())?;
+    let mut run = begin(alloc, study)?;
+    let mut planning = plan_of(alloc, study)?;
+    let ending = evaluate_batches(evaluator, &mut planning, study, &mut run);
     Ok(Ran {
-        rows,
+        rows: run.rows,
         ending,
-        duplicates,
+    })
+}
+
+/// An evaluation without attempts and rows, with room for all that the study can have.
+fn begin(alloc: Global, study: &Study) -> Result<Evaluation, AllocError>
+    requires { IsSound study.now }
+    ensures so_far { IfOk result (λ run. (child : Child) → IsSoFar study.now child run) }
+    ensures none { IfOk result (λ run. run.rows.rows ≡ []) }
+{
+    let variables = study.variables.labels.items().len();
+    let responses = study.responses.labels.items().len();
+    let limit = study.limit as usize;
+    Ok(Evaluation {
+        book: Book::reserve(alloc, variables, responses, limit, limit)?,
+        rows: RowPool::reserve(alloc, limit, variables, responses)?,
+        firsts: vec![in alloc; 0; limit]?,
+        point: vec![in alloc; Dec::whole(0); variables]?,
+        values: vec![in alloc; Dec::whole(0); responses]?,
     })
 }
 
 /// Evaluates one batch of points after another, up to the end, and adds their rows.
-fn evaluate_batches(alloc: Global, study: &Study, rows: &mut RowList) -> Result<Ending, AllocError>
-    requires evaluated { IsEvaluated study.now }
-    requires none { rows.old ≡ [] }
-    ensures { IfOk result (λ ending. Solo study.now rosenbrock_child [] rows.new ending) }
+fn evaluate_batches<E: Evaluator>(
+    evaluator: &E,
+    planning: &mut Planning,
+    study: &Study,
+    run: &mut Evaluation,
+) -> Ending
+    requires sound { IsSound study.now }
+    requires responses { E.responses evaluator.now ≡ length study.now.responses.labels }
+    requires planned { planning.old ≡ record { study = study.now; before = 0; count = 0 } }
+    requires so_far { IsSoFar study.now (E.child evaluator.now) run.old }
+    requires none { run.old.rows.rows ≡ [] }
+    ensures alone { Solo study.now (E.child evaluator.now) [] run.new.rows.rows result }
+    ensures widths { HaveWidths study.now run.new.rows.rows }
 {
-    let mut planning = plan_of(alloc, study)?;
     loop {
-        match planning.next(rows) {
-            Plan::Finished(why) => return Ok(Ending::Finished(why)),
+        match planning.next(&run.rows) {
+            Plan::Finished(why) => return Ending::Finished(why),
             Plan::Batch { first, count } => {
-                if let Some(ending) = evaluate_batch(alloc, &planning, study, first, count, rows)? {
-                    return Ok(ending);
+                if let Some(ending) = evaluate_batch(
+                    evaluator, planning, study, first, count, run,
+                ) {
+                    return ending;
                 }
             }
         }
     }
 }
 
-/// Evaluates the points of a batch up to the first that has no value, and adds their rows.
-fn evaluate_batch<P: Planner>(
-    alloc: Global,
+/// Evaluates the points of a batch up to the first that has no values, and adds their rows.
+fn evaluate_batch<E: Evaluator, P: Planner>(
+    evaluator: &E,
     planner: &P,
     study: &Study,
     first: u32,
     count: u32,
-    rows: &mut RowList,
-) -> Result<Option<Ending>, AllocError>
+    run: &mut Evaluation,
+) -> Option<Ending>
     requires sound { IsSound study.now }
+    requires responses { E.responses evaluator.now ≡ length study.now.responses.labels }
+    requires so_far { IsSoFar study.now (E.child evaluator.now) run.old }
     requires study { P.study planner.now ≡ study.now }
-    requires before { P.before planner.now ≡ length rows.old }
-    requires batch { P.batch planner.now ≡ rest study.now rows.old }
-    requires first { first ≡ length rows.old + 1 }
-    requires count { count ≡ length (rest study.now rows.old) }
-    ensures { IfOk result (λ ended. EndsBatch study.now rosenbrock_child (rest study.now rows.old) rows.old rows.new ended) }
+    requires before { P.before planner.now ≡ length run.old.rows.rows }
+    requires batch { P.batch planner.now ≡ rest study.now run.old.rows.rows }
+    requires first { first ≡ length run.old.rows.rows + 1 }
+    requires count { count ≡ length (rest study.now run.old.rows.rows) }
+    ensures ends { EndsBatch study.now (E.child evaluator.now) (rest study.now run.old.rows.rows) run.old.rows.rows run.new.rows.rows result }
+    ensures so_far { result ≡ None → IsSoFar study.now (E.child evaluator.now) run.new }
+    ensures widths { HaveWidths study.now run.new.rows.rows }
 {
     for row in first..first + count {
-        let point = point_of(alloc, planner, study, row)?;
-        match attempt(alloc, &point)? {
-            Some(values) => rows.push(Row { point, values })?,
-            None => {
-                return Ok(Some(Ending::Aborted {
-                    evaluation: row,
-                    attempts: 1,
-                }));
-            }
+        planner.point(row, &mut run.point);
+        if let Some(ending) = evaluate_point(evaluator, study, run) {
+            return Some(ending);
         }
     }
-    Ok(None)
+    None
 }
 
-/// The point of a row of the last batch.
-fn point_of<P: Planner>(
-    alloc: Global,
-    planner: &P,
+/// Evaluates the point that was written, and adds its row; or tells how the study ends with it.
+fn evaluate_point<E: Evaluator>(
+    evaluator: &E,
     study: &Study,
-    row: u32,
-) -> Result<Decs, AllocError>
+    run: &mut Evaluation,
+) -> Option<Ending>
     requires sound { IsSound study.now }
-    requires study { P.study planner.now ≡ study.now }
-    requires row { IsInBatch (P.before planner.now) (P.batch planner.now) row }
-    ensures { IfOk result (λ point. slice_get (P.batch planner.now) (row - (P.before planner.now + 1)) ≡ Some point) }
+    requires responses { E.responses evaluator.now ≡ length study.now.responses.labels }
+    requires so_far { IsSoFar study.now (E.child evaluator.now) run.old }
+    requires left { length run.old.rows.rows < study.now.limit }
+    ensures ends { EndsPoint study.now (E.child evaluator.now) run.old.point.items run.old.rows.rows run.new.rows.rows result }
+    ensures so_far { result ≡ None → IsSoFar study.now (E.child evaluator.now) run.new }
+    ensures widths { HaveWidths study.now run.new.rows.rows }
 {
-    let mut point = vec![in alloc; Dec::whole(0); study.variables.labels.items().len()]?;
-    planner.point(row, &mut point);
-    Ok(Decs::of_vec(point))
+    let card = run.book.place(&run.point);
+    let number = run.rows.count() + 1;
+    let rule = &study.interface.rule;
+    match settle(
+        evaluator,
+        &mut run.book,
+        rule,
+        card,
+        &run.point,
+        &mut run.values,
+    ) {
+        Some(attempts) => Some(Ending::Aborted {
+            evaluation: number,
+            attempts,
+        }),
+        None => {
+            let first = first_row(&mut run.firsts, card, number);
+            run.rows.push(&run.point, &run.values, first);
+            None
+        }
+    }
 }
 
-/// The values of a point, where it has some.
-fn attempt(alloc: Global, point: &Decs) -> Result<Option<Decs>, AllocError>
-    ensures { IfOk result (λ values. values ≡ rosenbrock_child point.now) }
+/// The number of the first row with a card's point, which is this one where there was none.
+fn first_row(firsts: &mut [u32], card: CardId, number: u32) -> u32
+    requires { card.index < length firsts.old }
+    ensures { TakesNumber firsts.old firsts.new card.index number result }
 {
-    let [x1, x2] = point.items() else {
-        return Ok(None);
-    };
-    match rosenbrock(*x1, *x2) {
-        Some(value) => Ok(Some(Decs::of(alloc, &[value])?)),
-        None => Ok(None),
+    let first = &mut firsts[card.index as usize];
+    if *first == 0 {
+        *first = number;
     }
+    *first
 }

@@ -2,19 +2,17 @@
 //! the summary.
 #![tactic(auto)]
 
-mod best;
 mod built;
 mod checks;
 mod commands;
-mod duplicates;
 mod evaluate;
+mod evaluator;
 pub mod laws;
 mod refusal;
 mod rows;
 mod run;
+mod settle;
 mod status;
-mod summary;
-mod table;
 #[cfg(test)]
 mod tests;
 mod words;

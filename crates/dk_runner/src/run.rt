@@ -1,8 +1,7 @@
 // The top call.
 ghost use Rattle.std.specs.Prelude.{◌≡◌, ℕ, ◌≤◌, [], length, map, IfErr, IfOk, IfSome, IsTrue, OnOk, Some, string_bytes};
 ghost use Rattle.dk_outside.specs.Causes.{Rose};
-ghost use Rattle.dk_types.specs.Best.{duplicates};
-ghost use Rattle.dk_types.specs.Solo.{Solo, rosenbrock_child};
+ghost use Rattle.dk_report.specs.Widths.{HaveWidths};
 ghost use Rattle.dk_runner.specs.Words.{IsRun, Misused};
 ghost use Rattle.dk_runner.specs.Evaluated.{IsEvaluated};
 ghost use Rattle.dk_runner.specs.Accepted.{Refused};
@@ -13,14 +12,14 @@ ghost use Rattle.dk_reader.specs.declared.fault.StudyFault.{StudyFault};
 
 use crate::built::is_built;
 use crate::evaluate::{Ran, evaluate};
+use crate::evaluator::Direct;
 use crate::refusal::say;
-use crate::summary::write_summary;
-use crate::table::write_table;
 use crate::words::usage_of_run;
 use crate::{Span, Status, StudyFault, StudyKind, Which};
 use dk_outside::source::{TextFault, read_text};
 use dk_outside::{Bench, Disk, Failed, Sink, Source};
 use dk_reader::{ReadRefusal, read_study};
+use dk_report::{write_summary, write_table};
 use dk_types::{Ending, Study};
 use std::alloc::Global;
 
@@ -35,10 +34,10 @@ pub struct Ended<K, B> {
 /// Does all that the program does.
 ///
 /// The words are `-i FILE`, and `study` is the source over that file. Its text is read, the study is evaluated one
-/// point after another up to the first point without a value, and the table and then the summary are written. A text may
-/// say any study; so far vector, list, centered and multidimensional studies over the program's own function that end at
-/// a point without a value are evaluated, and each other one is refused as unsupported, with an empty span at the text's
-/// beginning.
+/// point after another under its rule for failures, and the table and then the summary are written. A text may say any
+/// study; so far vector, list, centered and multidimensional studies over the program's own function are evaluated, and
+/// a compass search, or a study over another program (`fork`), is refused as unsupported, with an empty span at the
+/// text's beginning.
 pub fn dakota<S: Source, K: Disk, T: Sink, U: Sink, B: Bench>(
     alloc: Global,
     words: &[String],
@@ -116,7 +115,7 @@ fn run<S: Source, T: Sink, U: Sink>(
         Ok(study) => study,
         Err(status) => return refuse(status, out),
     };
-    match evaluate(alloc, &study) {
+    match evaluate(alloc, &study, &Direct) {
         Ok(ran) => report(&study, &ran, table, out),
         Err(_) => refuse(Status::NoMemory, out),
     }
@@ -177,13 +176,12 @@ fn refuse<U: Sink>(status: Status, out: &mut U) -> Status
 
 /// Writes the table and then the summary.
 fn report<T: Sink, U: Sink>(study: &Study, ran: &Ran, table: &mut T, out: &mut U) -> Status
-    requires alone { Solo study.now rosenbrock_child [] ran.now.rows ran.now.ending }
-    requires repeated { ran.now.duplicates ≡ duplicates ran.now.rows }
+    requires widths { HaveWidths study.now ran.now.rows.rows }
     ensures grows { OnlyGrows (U.held out.old) (U.held out.new) }
-    ensures reports { Reports study.now ran.now.rows ran.now.ending (T.held table.old) (T.held table.new) (T.faults table.old) (T.faults table.new)
+    ensures reports { Reports study.now ran.now.rows.rows ran.now.ending (T.held table.old) (T.held table.new) (T.faults table.old) (T.faults table.new)
         (U.held out.old) (U.held out.new) (U.faults out.old) (U.faults out.new) result }
 {
-    match write_table(study, ran.rows.items(), table) {
+    match write_table(study, &ran.rows, table) {
         Ok(()) => report_summary(study, ran, out),
         Err(Failed) => refuse(Status::SinkFault(Which::Table), out),
     }
@@ -191,12 +189,11 @@ fn report<T: Sink, U: Sink>(study: &Study, ran: &Ran, table: &mut T, out: &mut U
 
 /// Writes the summary.
 fn report_summary<U: Sink>(study: &Study, ran: &Ran, out: &mut U) -> Status
-    requires alone { Solo study.now rosenbrock_child [] ran.now.rows ran.now.ending }
-    requires repeated { ran.now.duplicates ≡ duplicates ran.now.rows }
+    requires widths { HaveWidths study.now ran.now.rows.rows }
     ensures grows { OnlyGrows (U.held out.old) (U.held out.new) }
-    ensures summarizes { Summarizes study.now ran.now.rows ran.now.ending (U.held out.old) (U.held out.new) (U.faults out.old) (U.faults out.new) result }
+    ensures summarizes { Summarizes study.now ran.now.rows.rows ran.now.ending (U.held out.old) (U.held out.new) (U.faults out.old) (U.faults out.new) result }
 {
-    match write_summary(study, ran.rows.items(), ran.duplicates, &ran.ending, out) {
+    match write_summary(study, &ran.rows, &ran.ending, out) {
         Ok(()) => status_of(&ran.ending),
         Err(Failed) => Status::SinkFault(Which::Out),
     }

@@ -1,6 +1,7 @@
 //! Whole runs over a source and sinks in memory.
 mod checks;
 mod command_line;
+mod evaluators;
 mod fakes;
 mod points;
 mod studies;
@@ -285,11 +286,13 @@ fn studies_that_are_not_built_are_refused(rt: HostRuntime) -> Result<(), Fail> {
     let alloc = rt.alloc();
     let vector = "vector_parameter_study\n    num_steps = 2\n    step_vector = 0.5 0.5";
     let search = "compass_search initial_delta = 1 threshold_delta = 0.5";
-    let cases: [&[(&str, &str)]; 4] = [
+    let cases: [&[(&str, &str)]; 3] = [
         &[(vector, search)],
-        &[("direct", "direct failure_capture recover = 7")],
         &[("'rosenbrock'\n    direct", "'simulate -v' fork")],
-        &[("direct", "direct failure_capture retry = 2")],
+        &[(
+            "'rosenbrock'\n    direct",
+            "'simulate -v' fork failure_capture retry = 2",
+        )],
     ];
     for edits in cases {
         let text = edited(alloc, edits)?;

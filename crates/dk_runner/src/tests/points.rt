@@ -4,7 +4,7 @@ ghost use Rattle.dk_types.specs.Points.{size};
 ghost use Rattle.dk_types.specs.Sound.{IsSound};
 
 use super::texts::edited;
-use crate::rows::RowList;
+use crate::rows::RowPool;
 use dk_method::{Planning, has_points, plan_of};
 use dk_num::Dec;
 use dk_outside::source::TEXT_LIMIT;
@@ -22,7 +22,7 @@ fn begun(alloc: Global, study: &Study) -> Result<Option<Planning>, Fail>
         return Ok(None);
     }
     let mut planning = plan_of(alloc, study)?;
-    planning.next(&RowList::with_capacity(alloc, 0)?);
+    planning.next(&RowPool::reserve(alloc, 0, 2, 1)?);
     Ok(Some(planning))
 }
 

@@ -3,9 +3,11 @@ use super::fakes::Given;
 use super::run;
 use super::texts::edited;
 use crate::Status;
-use crate::rows::RowList;
+use crate::rows::RowPool;
 use dk_num::Dec;
-use dk_types::{Decs, Row, Rows};
+use dk_types::Rows;
+use std::alloc::Global;
+use std::process::Abort;
 use std::test::Fail;
 
 /// The edits of the base study, how a run of it ends, its table and its summary.
@@ -44,6 +46,34 @@ const FIRST_OF_A_WAY: &str = "%eval_id interface x1 x2 obj_fn
 1 NO_ID 0 0 1
 ";
 
+const RECOVERED: &str = "%eval_id interface x1 x2 obj_fn
+1 NO_ID 0 0 1
+2 NO_ID 0.3333333333333333333333333333 0.3333333333333333333333333333 7
+3 NO_ID 0.6666666666666666666666666667 0.6666666666666666666666666667 7
+4 NO_ID 1 1 0
+";
+
+const RECOVERED_ON_THE_WAY: &str = "<<<<< Study finished: complete
+<<<<< Function evaluation summary: 4 total (4 new, 0 duplicate)
+<<<<< Best evaluation: 4
+<<<<< Best parameters: x1 = 1, x2 = 1
+<<<<< Best objective function: obj_fn = 0
+";
+
+const TRIED_THRICE: &str = "<<<<< Study aborted: evaluation 2 failed, attempts 3
+<<<<< Function evaluation summary: 1 total (1 new, 0 duplicate)
+<<<<< Best evaluation: 1
+<<<<< Best parameters: x1 = 0, x2 = 0
+<<<<< Best objective function: obj_fn = 1
+";
+
+const NO_ROWS: &str = "%eval_id interface x1 x2 obj_fn
+";
+
+const STOPPED_AT_ONCE: &str = "<<<<< Study aborted: evaluation 1 failed, attempts 1
+<<<<< Function evaluation summary: 0 total (0 new, 0 duplicate)
+";
+
 const STOPPED_ON_THE_WAY: &str = "<<<<< Study aborted: evaluation 2 failed, attempts 1
 <<<<< Function evaluation summary: 1 total (1 new, 0 duplicate)
 <<<<< Best evaluation: 1
@@ -51,10 +81,21 @@ const STOPPED_ON_THE_WAY: &str = "<<<<< Study aborted: evaluation 2 failed, atte
 <<<<< Best objective function: obj_fn = 1
 ";
 
+/// Each of these studies comes to its status, its table and its summary.
+fn assert_cases(rt: &impl Abort, alloc: Global, cases: &[Case]) -> Result<(), Fail> {
+    for (edits, status, rows, told) in cases {
+        let text = edited(alloc, edits)?;
+        let left = run(alloc, &["-i", "s1.in"], Given::of(text), 1000)?;
+        assert_eq!(rt; left.status, *status, "{told}");
+        assert_eq!(rt; left.table.taken(), rows.as_bytes(), "{told}");
+        assert_eq!(rt; left.out.taken(), told.as_bytes(), "{told}");
+    }
+    Ok(())
+}
+
 /// A centered study, a list with a point twice, and a way to a final point whose second point has no value.
 #[test]
 fn each_study_has_its_rows(rt: HostRuntime) -> Result<(), Fail> {
-    let alloc = rt.alloc();
     let centered = "centered_parameter_study step_vector = 1 1 steps_per_variable = 1 1";
     let list = "list_parameter_study list_of_points = 0.10 0 1e-1 0";
     let way = "vector_parameter_study num_steps = 3 final_point = 1 1";
@@ -73,14 +114,37 @@ fn each_study_has_its_rows(rt: HostRuntime) -> Result<(), Fail> {
             STOPPED_ON_THE_WAY,
         ),
     ];
-    for (edits, status, rows, told) in cases {
-        let text = edited(alloc, edits)?;
-        let left = run(alloc, &["-i", "s1.in"], Given::of(text), 1000)?;
-        assert_eq!(rt; left.status, status, "{told}");
-        assert_eq!(rt; left.table.taken(), rows.as_bytes(), "{told}");
-        assert_eq!(rt; left.out.taken(), told.as_bytes(), "{told}");
-    }
-    Ok(())
+    assert_cases(&rt, rt.alloc(), &cases)
+}
+
+/// A point without a value has the rule's own, is tried again as often as the rule says, or ends the study, at its
+/// first row too, with a table and without one.
+#[test]
+fn each_rule_has_its_rows(rt: HostRuntime) -> Result<(), Fail> {
+    let way = "vector_parameter_study num_steps = 3 final_point = 1 1";
+    let recover = ("direct", "direct failure_capture recover = 7");
+    let retry = ("direct", "direct failure_capture retry = 2");
+    let thirds = ("0.5 0.5", "0.3333333333333333333333333333 0");
+    let one_step = ("num_steps = 2", "num_steps = 1");
+    let dead = ("0 0", "0.3333333333333333333333333333 0");
+    let no_table = ("  tabular_data\n    tabular_data_file = 't.dat'\n", "");
+    let cases: [Case; 4] = [
+        (
+            &[(METHOD, way), recover],
+            Status::Finished,
+            RECOVERED,
+            RECOVERED_ON_THE_WAY,
+        ),
+        (
+            &[one_step, thirds, retry],
+            Status::Aborted,
+            FIRST_OF_A_WAY,
+            TRIED_THRICE,
+        ),
+        (&[dead], Status::Aborted, NO_ROWS, STOPPED_AT_ONCE),
+        (&[no_table, dead], Status::Aborted, "", STOPPED_AT_ONCE),
+    ];
+    assert_cases(&rt, rt.alloc(), &cases)
 }
 
 const FIRST_ROWS: &str = "%eval_id interface x1 x2 response_fn_1
@@ -120,15 +184,9 @@ fn a_grid_has_a_row_for_each_choice(rt: HostRuntime) -> Result<(), Fail> {
 #[test]
 fn rows_are_read_by_number(rt: HostRuntime) -> Result<(), Fail> {
     let alloc = rt.alloc();
-    let mut rows = RowList::with_capacity(alloc, 2)?;
-    rows.push(Row {
-        point: Decs::of(alloc, &[Dec::whole(5)])?,
-        values: Decs::of(alloc, &[Dec::whole(6)])?,
-    })?;
-    rows.push(Row {
-        point: Decs::of(alloc, &[Dec::whole(5)])?,
-        values: Decs::of(alloc, &[Dec::whole(7)])?,
-    })?;
+    let mut rows = RowPool::reserve(alloc, 2, 1, 1)?;
+    rows.push(&[Dec::whole(5)], &[Dec::whole(6)], 1);
+    rows.push(&[Dec::whole(5)], &[Dec::whole(7)], 1);
     assert_eq!(rt; rows.count(), 2);
     assert_eq!(rt; rows.point(2), [Dec::whole(5)].as_slice());
     assert_eq!(rt; rows.values(2), [Dec::whole(7)].as_slice());

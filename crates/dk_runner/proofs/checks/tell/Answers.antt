@@ -1,4 +1,5 @@
-use Rattle.dk_runner.proofs.Saying.{arrives, grows_only, front_only}
+use Rattle.dk_report.proofs.Told.{arrives}
+use Rattle.dk_runner.proofs.Saying.{grows_only, front_only}
 use Rattle.dk_runner.proofs.checks.tell.Goals as goal
 
 pub returns-in-Ok-clause-grows : goal.returns-in-Ok-clause-grows

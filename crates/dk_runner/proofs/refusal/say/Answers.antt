@@ -1,4 +1,5 @@
-use Rattle.dk_runner.proofs.Saying.{arrives, says, says_only}
+use Rattle.dk_report.proofs.Told.{arrives}
+use Rattle.dk_runner.proofs.Saying.{says, says_only}
 use Rattle.dk_runner.proofs.refusal.say.Goals as goal
 
 pub returns-clause-says : goal.returns-clause-says

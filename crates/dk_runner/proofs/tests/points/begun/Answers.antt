@@ -4,6 +4,7 @@ use Rattle.dk_types.specs.declared.study.Study.{Study}
 use Rattle.dk_types.specs.Points.{size, point}
 use Rattle.dk_types.specs.Planned.{points_from, rest}
 use Rattle.dk_method.specs.Plans.{Planned}
+use Rattle.dk_runner.specs.Pools.{RowsState}
 use Rattle.dk_runner.proofs.tests.points.begun.Goals as goal
 
 -- a plan whose batch is all points
@@ -19,5 +20,6 @@ planned_all planned study is none batch =
 pub returns : goal.returns
 returns c =
     let study_is = ap (λ (p : Planned). p.study) c.in_ok-planning.ensures in
-    planned_all c.next.new.self c.args.study.now (c.next.ensures.study ∙ study_is) (c.next.ensures.before ∙ ap length c.in_ok-with_capacity.ensures)
-    (c.next.ensures.batch ∙ ap (λ (s : Study). rest s c.in_ok-with_capacity.field-0) study_is ∙ ap (rest c.args.study.now) c.in_ok-with_capacity.ensures)
+    let none = ap (λ (r : RowsState). r.rows) c.in_ok-reserve.ensures in
+    planned_all c.next.new.self c.args.study.now (c.next.ensures.study ∙ study_is) (c.next.ensures.before ∙ ap length none)
+    (c.next.ensures.batch ∙ ap (λ (s : Study). rest s c.in_ok-reserve.field-0.rows) study_is ∙ ap (rest c.args.study.now) none)
