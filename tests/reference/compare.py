@@ -8,8 +8,9 @@ Each study is checked, and run where it is accepted; some of the others are run 
 folders that begin alike. Compared are standard output, the exit status, and the files that are in the folder then, byte
 for byte. Nothing may come on standard error, and no file may be made or changed by a check, or where the status is 2, 3
 or 4. With --keep, the folders of a case that differs are kept there, with a file `words`. With --alone, only the reference
-runs. At the end it is told how many cases had each status and each kind of refusal, and how often each method ended how; a
-study that is accepted and doesn't run so far counts as `not run`. The exit status is 1 where a case differs.
+runs. At the end it is told how many cases had each status and each kind of refusal, and how often each method ended how under
+which rule for failures; under `recover` also whether none, some or all of the points failed. A study that is accepted and
+doesn't run so far counts as `not run`. The exit status is 1 where a case differs.
 """
 import argparse
 import collections
@@ -22,6 +23,8 @@ import subprocess
 import sys
 import tempfile
 
+from dakota import points_of
+from decimals import decimal_of, rosenbrock
 from form_texts import form_text
 from run_texts import run_text
 from study import read_study
@@ -176,6 +179,12 @@ def faults(words, ours, theirs):
     return wrong
 
 
+def failures(study):
+    """How many points of a study that runs fail: none, some or all."""
+    values = [rosenbrock(*(decimal_of(it, study.unit) for it in point)) for point in points_of(study)]
+    return "none" if None not in values else "some" if any(values) else "all"
+
+
 def kinds_of(said, case):
     """What the text that a command prints says of the study, in short."""
     refused = re.match(rb"dakota: study refused: (\w+) at bytes (.*)", said)
@@ -185,9 +194,10 @@ def kinds_of(said, case):
         yield "accepted"
     ended = re.match(rb"<<<<< Study (finished|aborted).*\n.*, (\d+) duplicate", said)
     if ended:
-        method = read_study(case.text).method
-        name = method.name.split("_")[0] + (" to a final point" if "final_point" in method.values else "")
-        yield f"{name} {ended[1].decode()}"
+        study = read_study(case.text)
+        name = study.method.name.split("_")[0] + (" to a final point" if "final_point" in study.method.values else "")
+        rule, _ = study.interface.rule
+        yield f"{name} {ended[1].decode()} under {rule}" + (f", {failures(study)} failed" if rule == "recover" else "")
         if ended[2] != b"0":
             yield f"{name} with duplicates"
 

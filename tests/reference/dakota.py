@@ -71,19 +71,41 @@ def points_of(study):
 
 def is_evaluated(study):
     """Whether a run of this study is there so far."""
-    return study.method.name != "compass_search" and study.interface.is_direct and study.interface.rule[0] == "abort"
+    return study.method.name != "compass_search" and study.interface.is_direct
+
+
+def attempts_of(point, most):
+    """The value of a point by the first of at most so many attempts that has one, or none; and how many were made."""
+    for attempt in range(1, most + 1):
+        value = rosenbrock(*point)
+        if value is not None:
+            return value, attempt
+    return None, most
+
+
+def under_rule(point, rule, given):
+    """The value of a point under a rule for failures, or none; and how many attempts were made."""
+    if rule == "retry":
+        return attempts_of(point, 1 + given)
+    value, attempts = attempts_of(point, 1)
+    if value is None and rule == "recover":
+        [value] = given
+    return value, attempts
 
 
 def evaluate(study):
-    """The rows (x1, x2, value), up to the first point that has no value, and whether there was none."""
+    """The rows (x1, x2, value) up to the first point without a value, and how many attempts it had; none where each has a value.
+
+    A point that stood before is evaluated anew: its attempts give the same again.
+    """
     rows = []
     for units in points_of(study):
         point = [decimal_of(it, study.unit) for it in units]
-        value = rosenbrock(*point)
+        value, attempts = under_rule(point, *study.interface.rule)
         if value is None:
-            return rows, False
+            return rows, attempts
         rows.append((*point, value))
-    return rows, True
+    return rows, None
 
 
 def table(study, rows):
@@ -109,8 +131,8 @@ def best_lines(study, rows):
     ]
 
 
-def summary(study, rows, is_complete):
-    ending = "finished: complete" if is_complete else f"aborted: evaluation {len(rows) + 1} failed, attempts 1"
+def summary(study, rows, attempts):
+    ending = "finished: complete" if attempts is None else f"aborted: evaluation {len(rows) + 1} failed, attempts {attempts}"
     fresh = len({row[:2] for row in rows})
     lines = [
         f"Study {ending}",
@@ -179,14 +201,14 @@ def run(words):
         return "study accepted: variables {}, responses {}, evaluations at most {}\n".format(*counts), 0
     if not is_evaluated(study):
         return refusal("Unsupported")
-    rows, is_complete = evaluate(study)
+    rows, attempts = evaluate(study)
     try:
         if study.table is not None:
             with open(study.table, "wb") as it:
                 it.write(table(study, rows).encode())
     except OSError:
         return "dakota: table not written\n", 9
-    return summary(study, rows, is_complete), 0 if is_complete else 1
+    return summary(study, rows, attempts), 0 if attempts is None else 1
 
 
 def main():

@@ -5,7 +5,7 @@ In a text with a fault, `[` and `]` stand around the fault's span, and are taken
 """
 import sys
 
-from dakota import points_of
+from dakota import evaluate, points_of, summary
 from decimals import decimal_of, number_of, text_of
 from study import Refused, read_study
 
@@ -186,6 +186,17 @@ POINTS = [
     (with_variables(VARIABLES + "initial_point 1e28 0 lower_bounds -3 7 upper_bounds 0 7 ",
      "method multidim_parameter_study partitions 2 1 "), "-3 7, -1 7, 0 7, -3 7, -1 7, 0 7"),
 ]
+# Rules for failures, the values of the rows, the end, and the best row. The square of the long number has 35 digits.
+FAILING = "method list_parameter_study list_of_points 1 1, 123456789012345678 0, 0 0, 123456789012345678 0 "
+RULES = [
+    ("", "0", "aborted: evaluation 2 failed, attempts 1", 1),
+    ("failure_capture abort ", "0", "aborted: evaluation 2 failed, attempts 1", 1),
+    ("failure_capture retry 1 ", "0", "aborted: evaluation 2 failed, attempts 2", 1),
+    ("failure_capture retry 1000 ", "0", "aborted: evaluation 2 failed, attempts 1001", 1),
+    ("failure_capture recover 1e6 ", "0 1000000 1 1000000", "finished: complete", 1),
+    ("failure_capture recover 0 ", "0 0 1 0", "finished: complete", 1),
+    ("failure_capture recover -5 ", "0 -5 1 -5", "finished: complete", 2),
+]
 NUMBERS = [
     ("0.10", "0.1"),
     (".5", "0.5"),
@@ -216,6 +227,15 @@ def points(text):
     return ", ".join(" ".join(text_of(decimal_of(it, study.unit)) for it in point) for point in points_of(study))
 
 
+def ended(text):
+    """The values of a study's rows, how it ended, and its best row."""
+    study = read_study(text)
+    rows, attempts = evaluate(study)
+    end, _, best, *_ = summary(study, rows, attempts).splitlines()
+    values = " ".join(text_of(it[-1]) for it in rows)
+    return values, end.removeprefix("<<<<< Study "), int(best.removeprefix("<<<<< Best evaluation: "))
+
+
 def failed():
     for kind, marked in LEXICAL + GRAMMAR + STEPS_1_TO_4 + STEPS_5_AND_6 + STEPS_7_TO_12:
         text = marked.encode("latin-1")
@@ -229,6 +249,10 @@ def failed():
     for text, wanted in POINTS:
         if points(text.encode()) != wanted:
             yield f"{text!r}: {points(text.encode())}, and not {wanted}"
+    for rule, *wanted in RULES:
+        told = ended((FAILING + VARIABLES + INTERFACE + rule + RESPONSES).encode())
+        if told != tuple(wanted):
+            yield f"{rule or 'no rule'}: {told}, and not {wanted}"
     for text, wanted in NUMBERS:
         number = number_of(text.encode())
         if (number and text_of(number)) != wanted:

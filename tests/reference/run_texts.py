@@ -1,9 +1,11 @@
-"""Texts of studies that run, by chance: of each method, with points that are rounded, that stand twice, or have no value.
+"""Texts of studies that run, by chance: of each method and under each rule for failures, with points that are rounded, that
+stand twice, or whose attempts fail.
 
 Numbers are whole numbers of one power of ten. A pair of them is a point, or a step.
 """
 from form_texts import FAMILIES
 from number_texts import digits_of, spelled
+from study import RULES
 from study_texts import Block, Item, Numbers, Plan, environment, interface, responses, shuffled, starred, whole_text, written
 
 SIZES = [1, 2, 3, 4, 5, 6, 7, 8, 9, 10, 12, 16, 20, 25, 30]
@@ -18,8 +20,15 @@ def common(numbers):
     return exponent, [m * 10 ** (e - exponent) if m else 0 for m, e in numbers]
 
 
+def in_halves(random):
+    """A step and a start. Every other multiple of the step has a digit more, often one too many for a value."""
+    scale = random.randrange(-9, 1)
+    steps = [5 * digits_of(random, random.choice(counts)) for counts in ((1, 7, 8, 8), (1, 15, 16, 16))]
+    return [(it, scale) for it in steps] + [(random.choice([0, digits_of(random, 1)]), random.choice([0, scale])) for _ in range(2)]
+
+
 def start_and_step(random):
-    exponent, (*step, x1, x2) = common(random.choice(FAMILIES)(random))
+    exponent, (*step, x1, x2) = common(random.choice([*FAMILIES, *[in_halves] * 4])(random))
     return exponent, [x1, x2], step
 
 
@@ -33,6 +42,12 @@ def between_few_digits(random, parts):
     """A way whose points have endless digits where a part is a third or a seventh."""
     exponent, (*first, y1, y2) = common([(random.choice([0, digits_of(random, 1)]), random.randrange(-2, 1)) for _ in range(4)])
     return exponent, first, [y1, y2]
+
+
+def in_parts(random, parts):
+    """A way of which some points have more digits than others, often too many for a value."""
+    first, last = ([digits_of(random, random.choice([1, *counts])) for counts in ((6, 7, 8), (6, 8, 15))] for _ in range(2))
+    return random.randrange(-9, 1), [random.choice([0, it]) for it in first], last
 
 
 def with_equal_ends(random, parts):
@@ -67,7 +82,16 @@ def rounded_square(random, parts):
     return 0, [x1, x2], [x1, x2 + random.randrange(-99, 100)]
 
 
-WAYS = [exact, exact, exact, between_few_digits, between_few_digits, with_equal_ends, wide, far, square_way, rounded_square]
+WAYS = [
+    *[exact] * 3,
+    *[between_few_digits] * 2,
+    *[in_parts] * 5,
+    with_equal_ends,
+    wide,
+    far,
+    square_way,
+    rounded_square,
+]
 
 
 def few_units(random):
@@ -79,7 +103,7 @@ def few_units(random):
 
 def way(random, parts):
     """A way, and whether its exponent is to be that of the unit."""
-    is_unit = random.random() < 0.45
+    is_unit = random.random() < 0.35
     if max(parts) > 100 and random.random() < 0.4:
         is_unit, (exponent, first, last) = False, far(random, parts)
     else:
@@ -199,12 +223,30 @@ def in_a_grid(random):
 KINDS = [by_step, to_final, to_final, centered, centered, in_a_list, in_a_list, in_a_grid, in_a_grid]
 
 
+def recovered(random):
+    """A value of `recover`: often one that a point has, or less or greater than all of them, or one at a limit."""
+    small = spelled(random, random.choice([0, 0, 1, digits_of(random, 1)]), random.choice([0, 0, random.randrange(-9, 10)]))
+    count = random.choice([1, 33, 34])
+    first = random.choice([-9999, -7, -6, 0, 33, 34, 9999])
+    return random.choice([small, small, spelled(random, digits_of(random, count), first - count + 1)])
+
+
+def rule_items(random):
+    """A rule for failures, if any."""
+    rule = random.choice([None, "abort", "retry", "retry", "recover", "recover", "recover"])
+    values = []
+    if rule == "retry":
+        values = [whole_text(random, random.choice([1, 1, 2, 3, random.randrange(1, 1001), 999, 1000]))]
+    elif rule == "recover":
+        values = starred(random, [recovered(random)])
+    return [Item("failure_capture"), Item(rule, values)] if rule else []
+
+
 def interface_that_runs(random):
-    """The interface of a study that runs, but for some."""
+    """The interface of a study that runs, with each rule for failures."""
     block = interface(random, True, 1, Numbers(random))
-    while any(it.word in ("retry", "recover") for it in block.items) and random.random() < 0.8:
-        block = interface(random, True, 1, Numbers(random))
-    return block
+    others = [it for it in block.items if it.word not in ("failure_capture", *RULES)]
+    return Block("interface", others + rule_items(random))
 
 
 def run_text(random):
