@@ -36,6 +36,8 @@ def peak_of(command, folder):
 
 def main():
     runs, scratch, study, program, in_python, *in_c = sys.argv[1:]
+    scratch = os.path.join(scratch, os.path.basename(study))
+    os.mkdir(scratch)
     study, program, in_python, *in_c = map(os.path.abspath, (study, program, in_python, *in_c))
     commands = {"program": [program, "-i", study], "Python": [sys.executable, in_python, study]}
     if in_c:
@@ -49,7 +51,7 @@ def main():
         print(f"bench: not the same table, summary and status: {', '.join(different) or 'all end with another status than 0'}")
         return 1
     rows = wrote["program"][2].count(b"\n") - 1
-    print(f"{rows} rows, the same {len(wrote['program'][2])} bytes of table by {', '.join(commands)}")
+    print(f"{os.path.basename(study)}: {rows} rows, the same {len(wrote['program'][2])} bytes of table by {', '.join(commands)}")
     times = {name: [] for name in commands}
     for _ in range(int(runs)):
         for name, command in commands.items():

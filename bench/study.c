@@ -1,6 +1,6 @@
 /* The same study in C, for a comparison of times: study FILE writes t.dat and prints the summary. A decimal is a pair
- * of a mantissa below 10^34 and an exponent. It reads the numbers of a study that is known to be good, and refuses
- * nothing. */
+ * of a mantissa below 10^34 and an exponent. It reads the numbers of a vector study by steps or of a grid that is known to
+ * be good, and refuses nothing. */
 #include <stdbool.h>
 #include <stdint.h>
 #include <stdio.h>
@@ -106,7 +106,7 @@ static bool rosenbrock(const decimal *x1, const decimal *x2, decimal *value)
            difference(&one, x1, &f) && product(&f, &f, &g) && sum(&d, &g, value);
 }
 
-/* Whether a is less than b, which both are values, and so not negative. */
+/* Whether a is less than b, which both are values, and so not negative: the studies recover none that is. */
 static bool is_less(const decimal *a, const decimal *b)
 {
     if (a->mantissa == 0 || b->mantissa == 0)
@@ -224,6 +224,22 @@ static bool is_same(const decimal *a, const decimal *b)
     return a->mantissa == b->mantissa && a->exponent == b->exponent && a->negative == b->negative;
 }
 
+/* The first of a keyword's values, which stand behind `=`, or none. */
+static char **values_of(const char *keyword, char **pieces, int count)
+{
+    for (int i = 0; i + 2 < count; i++)
+        if (strcmp(pieces[i], keyword) == 0)
+            return pieces + i + 2;
+    return NULL;
+}
+
+/* The number of units that lies so many parts behind the first one on the way to the last, which is no less; a half is
+ * rounded up. */
+static __int128 between(__int128 first, __int128 last, int part, int parts)
+{
+    return first + (2 * part * (last - first) + parts) / (2 * parts);
+}
+
 int main(int count, char **words)
 {
     static char text[1 << 20];
@@ -239,10 +255,15 @@ int main(int count, char **words)
     fclose(file);
     for (char *it = strtok(text, " \t\r\n"); it && piece_count < 64; it = strtok(NULL, " \t\r\n"))
         pieces[piece_count++] = it;
-    if (piece_count < 22)
+    char **parts = values_of("partitions", pieces, piece_count), **steps = values_of("num_steps", pieces, piece_count);
+    char **to = values_of(parts ? "upper_bounds" : "step_vector", pieces, piece_count);
+    char **from = values_of(parts ? "lower_bounds" : "initial_point", pieces, piece_count);
+    char **recover = values_of("recover", pieces, piece_count);
+    if (!to || !from || !(parts || steps))
         return 3;
-    int steps = atoi(pieces[9]), unit = 0;
-    decimal numbers[4] = {read_number(pieces[12]), read_number(pieces[13]), read_number(pieces[20]), read_number(pieces[21])};
+    decimal numbers[4] = {read_number(to[0]), read_number(to[1]), read_number(from[0]), read_number(from[1])};
+    decimal recovered = recover ? read_number(*recover) : (decimal){0, 0, false};
+    int unit = 0;
     bool has_leading = false;
     for (int i = 0; i < 4; i++)
         if (numbers[i].mantissa && (!has_leading || leading(&numbers[i]) > unit)) {
@@ -254,15 +275,23 @@ int main(int count, char **words)
     for (int i = 0; i < 4; i++)
         units[i] = in_units(&numbers[i], unit);
 
-    row *rows = malloc(sizeof(row) * (size_t)(steps + 1));
+    int parts1 = parts ? atoi(parts[0]) : 0, parts2 = parts ? atoi(parts[1]) : 0;
+    int limit = parts ? (parts1 + 1) * (parts2 + 1) : atoi(*steps) + 1;
+    row *rows = malloc(sizeof(row) * (size_t)limit);
     if (!rows)
         return 10;
     int total = 0, best = 0;
-    for (; total <= steps; total++) {
+    for (; total < limit; total++) {
         row *it = &rows[total];
-        if (!point_of(units[2] + total * units[0], unit, &it->x1) || !point_of(units[3] + total * units[1], unit, &it->x2) ||
-            !rosenbrock(&it->x1, &it->x2, &it->value))
+        __int128 x1 = parts ? between(units[2], units[0], total % (parts1 + 1), parts1) : units[2] + total * units[0];
+        __int128 x2 = parts ? between(units[3], units[1], total / (parts1 + 1), parts2) : units[3] + total * units[1];
+        if (!point_of(x1, unit, &it->x1) || !point_of(x2, unit, &it->x2))
             break;
+        if (!rosenbrock(&it->x1, &it->x2, &it->value)) {
+            if (!recover)
+                break;
+            it->value = recovered;
+        }
         if (is_less(&it->value, &rows[best].value))
             best = total;
     }
@@ -281,12 +310,12 @@ int main(int count, char **words)
     if (fclose(file))
         return 9;
 
-    bool is_complete = total > steps;
+    bool is_complete = total == limit;
     if (is_complete)
         puts("<<<<< Study finished: complete");
     else
         printf("<<<<< Study aborted: evaluation %d failed, attempts 1\n", total + 1);
-    /* The points stand on a line, so one is met again only where there is no step. */
+    /* The points stand on a line, or in a grid of many units, so one is met again only where there is no step. */
     int same = total > 1 && is_same(&rows[0].x1, &rows[1].x1) && is_same(&rows[0].x2, &rows[1].x2) ? total - 1 : 0;
     printf("<<<<< Function evaluation summary: %d total (%d new, %d duplicate)\n", total, total - same, same);
     if (total) {

@@ -1,7 +1,7 @@
 #!/usr/bin/env python3
 """The same study by Python's decimal, for a comparison of times: study.py FILE writes t.dat and prints the summary.
 
-It reads the numbers of a study that is known to be good, and refuses nothing.
+It reads the numbers of a vector study by steps or of a grid that is known to be good, and refuses nothing.
 """
 import sys
 from decimal import MAX_EMAX, MIN_EMIN, Context, Decimal, Inexact, Overflow, setcontext
@@ -20,22 +20,58 @@ def text_of(number):
     return f"{number:e}" if abs(number.adjusted()) > 9 else f"{number:e}".replace("e+", "e+0").replace("e-", "e-0")
 
 
+class Study:
+    """The words and numbers of a study."""
+
+    def __init__(self, path):
+        with open(path, encoding="ascii") as it:
+            self.pieces = it.read().replace("=", " ").split()
+
+    def has(self, word):
+        return word in self.pieces
+
+    def numbers(self, word, count=2):
+        at = self.pieces.index(word) + 1
+        return [Decimal(it) for it in self.pieces[at : at + count]]
+
+
+def points_by_step(study):
+    (steps,), (step1, step2) = study.numbers("num_steps", 1), study.numbers("step_vector")
+    initial1, initial2 = study.numbers("initial_point")
+    for at in range(int(steps) + 1):
+        yield initial1 + at * step1, initial2 + at * step2
+
+
+def axis(low, high, parts, unit):
+    """The values of a variable of a grid: parts of the way between its bounds, rounded to the unit, a half away from the lower one."""
+    first, width = int(low.scaleb(-unit)), int((high - low).scaleb(-unit))
+    return [Decimal(first + (2 * k * width + parts) // (2 * parts)).scaleb(unit) for k in range(parts + 1)]
+
+
+def grid_points(study):
+    parts, lower, upper = study.numbers("partitions"), study.numbers("lower_bounds"), study.numbers("upper_bounds")
+    unit = max(it.adjusted() for it in lower + upper if it) - 28
+    axis1, axis2 = (axis(low, high, int(count), unit) for low, high, count in zip(lower, upper, parts))
+    for x2 in axis2:
+        for x1 in axis1:
+            yield x1, x2
+
+
 def main():
-    with open(sys.argv[1], encoding="ascii") as it:
-        pieces = it.read().split()
-    steps = int(pieces[9])
-    step1, step2 = map(Decimal, pieces[12:14])
-    initial1, initial2 = map(Decimal, pieces[20:22])
+    study = Study(sys.argv[1])
+    all_points = grid_points(study) if study.has("partitions") else points_by_step(study)
+    recover = study.numbers("recover", 1)[0] if study.has("recover") else None
     rows, complete, best, least, points = [], True, 0, None, set()
     lines = ["%eval_id interface x1 x2 obj_fn\n"]
-    for at in range(steps + 1):
+    for at, (x1, x2) in enumerate(all_points):
         try:
-            x1, x2 = initial1 + at * step1, initial2 + at * step2
             miss, rest = x2 - x1 * x1, ONE - x1
             value = HUNDRED * (miss * miss) + rest * rest
         except (Inexact, Overflow):
-            complete = False
-            break
+            if recover is None:
+                complete = False
+                break
+            value = recover
         texts = text_of(x1), text_of(x2), text_of(value)
         rows.append(texts)
         points.add(texts[:2])
