@@ -2,3 +2,4 @@ pub mod Lists
 pub mod Placed
 pub mod Tried
 pub mod Read
+pub mod OtherCards

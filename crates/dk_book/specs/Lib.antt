@@ -1,3 +1,4 @@
 pub mod Books
 pub mod Told
 pub mod Kept
+pub mod Laws

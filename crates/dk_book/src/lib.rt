@@ -2,6 +2,7 @@
 #![tactic(auto)]
 
 pub mod book;
+pub mod laws;
 #[cfg(test)]
 mod tests;
 

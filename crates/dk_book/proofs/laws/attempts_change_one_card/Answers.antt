@@ -1,0 +1,5 @@
+use Rattle.dk_book.proofs.OtherCards.{one_changed}
+use Rattle.dk_book.proofs.laws.attempts_change_one_card.Goals as goal
+
+pub returns : goal.returns
+returns c = one_changed
