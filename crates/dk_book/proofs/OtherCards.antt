@@ -7,7 +7,8 @@ use Rattle.dk_types.specs.Cards.{Card, blank, place_of}
 use Rattle.dk_book.specs.Books.{with_card, tried, with_attempt}
 use Rattle.dk_book.proofs.Lists.{item_kept}
 
-tried_there : (cards : List Card) (index : ℕ) (said : Said) → slice_get (with_attempt cards index said) index ≡ option_map (tried said) (slice_get cards index)
+-- the card of the place
+pub tried_there : (cards : List Card) (index : ℕ) (said : Said) → slice_get (with_attempt cards index said) index ≡ option_map (tried said) (slice_get cards index)
 tried_there [] index said = refl
 tried_there (c ∷ cards) zero said = refl
 tried_there (c ∷ cards) (suc index) said = tried_there cards index said

@@ -37,12 +37,9 @@ card_there values (x ∷ points) (m ∷ marks) zero p mark h l = refl
 card_there values (x ∷ points) (m ∷ marks) (suc i) p mark h l = card_there values points marks i p mark (omega arith) (omega arith)
 
 -- and it has the point there
-pub card_point : (values points : List (List Decimal)) (marks : List Mark) (i : ℕ) → length points ≤ length marks →
+pub card_point : (values points : List (List Decimal)) (marks : List Mark) (i : ℕ) (mark : Mark) → length points ≤ length marks → i < length points →
     option_map (λ (card : Card). card.point) (slice_get (cards_by values points marks) i) ≡ slice_get points i
-card_point values [] marks i h = refl
-card_point values (p ∷ points) [] i h = absurd (omega arith)
-card_point values (p ∷ points) (mark ∷ marks) zero h = refl
-card_point values (p ∷ points) (mark ∷ marks) (suc i) h = card_point values points marks i (omega arith)
+card_point values points marks i mark h l = ap (option_map (λ (card : Card). card.point)) (card_there values points marks i [] mark h l) ∙ sym (slice_get-get_or points i [] l)
 
 -- a card's place is that of a point
 pub point_there : (points values : PoolState) (marks : List Mark) (book : BookState) (i : ℕ) → IsKept points values marks → book_by points values marks ≡ book → i < length book.cards → i < length points.rows

@@ -23,25 +23,10 @@ use Rattle.dk_types.proofs.Growth.{answer_same}
 use Rattle.dk_book.specs.declared.book.Mark.{Mark}
 use Rattle.dk_book.specs.Books.{BookState, IsBook, IsDue}
 use Rattle.dk_book.specs.Kept.{IsKept, book_by, cards_by, card_by, values_at}
+use Rattle.dk_book.proofs.Placed.{cards_length, card_there}
 use Rattle.dk_book.specs.Told.{StandsFor, said_at, answer_at, said_there, answer_there}
 
 -- The card at a place
-
--- there is a mark for each card
-pub within_marks : (values points : List (List Decimal)) (marks : List Mark) (i : ℕ) → i < length (cards_by values points marks) → i < length marks
-within_marks values [] marks i h = absurd (omega arith)
-within_marks values (p ∷ points) [] i h = absurd (omega arith)
-within_marks values (p ∷ points) (mark ∷ marks) zero h = omega arith
-within_marks values (p ∷ points) (mark ∷ marks) (suc i) h =
-    let l : i < length marks = within_marks values points marks i (omega arith) in omega arith
-
--- the card at a place is that of the point and the mark there
-card_there : (values points : List (List Decimal)) (marks : List Mark) (i : ℕ) (mark : Mark) → i < length (cards_by values points marks) → mark ≡ get_or marks i mark →
-    (point : List Decimal) × (slice_get (cards_by values points marks) i ≡ Some (card_by values point mark))
-card_there values [] marks i mark h is = absurd (omega arith)
-card_there values (p ∷ points) [] i mark h is = absurd (omega arith)
-card_there values (p ∷ points) (m ∷ marks) zero mark h is = (p, ap (λ n. Some (card_by values p n)) (sym is))
-card_there values (p ∷ points) (m ∷ marks) (suc i) mark h is = card_there values points marks i mark (omega arith) is
 
 -- a book whose card at this place has this mark
 pub record IsRead (book : BookState) (values : PoolState) (i : ℕ) (mark : Mark) : Type 0 where
@@ -60,12 +45,13 @@ is_read points values marks book i mark kept view h is = subst (λ b. i < length
 
     here : i < length (cards_by values.rows points.rows marks) → IsRead (book_by points values marks) values i mark
     here h =
-        let c = card_there values.rows points.rows marks i mark h is in
+        let enough = kept.enough in
+        let long = cards_length values.rows points.rows marks (omega arith) in
         record {
           is_book = kept.book;
-          point = c.0;
-          card = c.1;
-          there = subst is_there (sym is) (All-get_or is_there marks i mark (within_marks values.rows points.rows marks i h) kept.there);
+          point = get_or points.rows i [];
+          card = card_there values.rows points.rows marks i [] mark (omega arith) (omega arith) ∙ ap (λ m. Some (card_by values.rows (get_or points.rows i []) m)) (sym is);
+          there = subst is_there (sym is) (All-get_or is_there marks i mark (omega arith) kept.there);
         }
 
 -- the row that the mark names is there

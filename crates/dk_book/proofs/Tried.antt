@@ -1,6 +1,6 @@
 -- Cards, one of which gets its next attempt.
 use Rattle.std.proofs.Common.{◌≡◌, ℕ, zero, suc, ◌+◌, ◌<◌, ◌≤◌, Bool, true, false, List, [], ◌∷◌, ◌++◌, length, get_or, set, Option, Some, None, refl, ap, sym, subst, ◌∙◌, arith, cond}
-use Rattle.std.specs.Prelude.{slice_get, IfSome}
+use Rattle.std.specs.Prelude.{option_map, slice_get, IfSome}
 use Rattle.std.specs.List.{All, find}
 use Rattle.std.specs.Option.{option_or}
 use Rattle.std.proofs.lemmas.List.{append-nil, length-set, drop-set-lt, length_push, get_or_append_left, get_or_push}
@@ -19,6 +19,7 @@ use Rattle.dk_types.specs.EntryLaws.{IsCard}
 use Rattle.dk_types.proofs.SamePoints.{same_itself, same_alike}
 use Rattle.dk_types.proofs.Attempts.{attempts_more, first_values_append, failures_append, all_failed}
 use Rattle.dk_types.proofs.CardEntries.{not_found, is_next, next_append}
+use Rattle.dk_book.proofs.OtherCards.{tried_there}
 use Rattle.dk_book.specs.declared.book.Mark.{Mark}
 use Rattle.dk_book.specs.Books.{BookState, IsBook, IsDue, tried, with_attempt}
 use Rattle.dk_book.specs.Told.{StandsFor, entry_of}
@@ -27,20 +28,18 @@ use Rattle.dk_book.proofs.Placed.{is_of, not_placed, card_there}
 
 -- What an attempt leaves as it was
 
-tried_point : (x : Said) (card : Card) → (tried x card).point ≡ card.point
+pub tried_point : (x : Said) (card : Card) → (tried x card).point ≡ card.point
 tried_point (Values v) card = refl
 tried_point Failed card = refl
 
-attempt_length : (cards : List Card) (i : ℕ) (x : Said) → length (with_attempt cards i x) ≡ length cards
+pub attempt_length : (cards : List Card) (i : ℕ) (x : Said) → length (with_attempt cards i x) ≡ length cards
 attempt_length [] i x = refl
 attempt_length (card ∷ cards) zero x = refl
 attempt_length (card ∷ cards) (suc i) x = ap suc (attempt_length cards i x)
 
 -- the card that gets it
-attempt_at : (cards : List Card) (i : ℕ) (x : Said) (c : Card) → slice_get cards i ≡ Some c → slice_get (with_attempt cards i x) i ≡ Some (tried x c)
-attempt_at [] i x c e = absurd (cc)
-attempt_at (card ∷ cards) zero x c e = let same : card ≡ c = cc in ap (λ c. Some (tried x c)) same
-attempt_at (card ∷ cards) (suc i) x c e = attempt_at cards i x c e
+pub attempt_at : (cards : List Card) (i : ℕ) (x : Said) (c : Card) → slice_get cards i ≡ Some c → slice_get (with_attempt cards i x) i ≡ Some (tried x c)
+attempt_at cards i x c e = tried_there cards i x ∙ ap (option_map (tried x)) e
 
 -- a point without a card stays without one
 attempt_apart : (cards : List Card) (i : ℕ) (x : Said) (p : List Decimal) → find (is_of p) cards ≡ None → find (is_of p) (with_attempt cards i x) ≡ None

@@ -20,6 +20,7 @@ use Rattle.dk_types.proofs.CardAnswers.{due_in_time}
 use Rattle.dk_types.proofs.Growth.{answer_stays}
 use Rattle.dk_book.specs.Books.{BookState, IsBook, IsDue, tried, with_attempt, room_taken}
 use Rattle.dk_book.specs.Told.{answer_at}
+use Rattle.dk_book.proofs.Tried.{attempt_at, tried_point}
 use Rattle.dk_runner.specs.Evaluated.{IsTrueTo, SettlesBook, points_of}
 
 pub few_retries : (responses : ℕ) (rule : FailRule) → IsSoundRule responses rule → retries rule ≤ 1000
@@ -35,18 +36,9 @@ settled rule child card p a true_to is e h =
 
 -- The next attempt of a card
 
-there_tried : (cards : List Card) (i : ℕ) (x : Said) (card : Card) → slice_get cards i ≡ Some card → slice_get (with_attempt cards i x) i ≡ Some (tried x card)
-there_tried [] i x card h = absurd (let w = slice_get_within [] i card h in omega arith)
-there_tried (c ∷ cards) zero x card h = ap (λ d. Some (tried x d)) (let e : c ≡ card = cc in e)
-there_tried (c ∷ cards) (suc i) x card h = there_tried cards i x card h
-
-point_tried : (x : Said) (card : Card) → (tried x card).point ≡ card.point
-point_tried (Values v) card = refl
-point_tried Failed card = refl
-
 points_tried : (cards : List Card) (i : ℕ) (x : Said) → points_of (with_attempt cards i x) ≡ points_of cards
 points_tried [] i x = refl
-points_tried (c ∷ cards) zero x = ap (λ p. p ∷ points_of cards) (point_tried x c)
+points_tried (c ∷ cards) zero x = ap (λ p. p ∷ points_of cards) (tried_point x c)
 points_tried (c ∷ cards) (suc i) x = ap (λ l. c.point ∷ l) (points_tried cards i x)
 
 all_tried : (P : Card → Type 0) (cards : List Card) (i : ℕ) (x : Said) → ((card : Card) → slice_get cards i ≡ Some card → P (tried x card)) → All P cards → All P (with_attempt cards i x)
@@ -149,8 +141,8 @@ settling_more child old now after index attempt p was due cards room spare varia
         let same_child : x ≡ child was.card.point attempt = sym e ∙ ap (λ q. child q attempt) (sym was.point_is) in
         record {
           card = tried x was.card;
-          there = ap (λ l. slice_get l index) here ∙ there_tried now.cards index x was.card was.there;
-          point_is = point_tried x was.card ∙ was.point_is;
+          there = ap (λ l. slice_get l index) here ∙ attempt_at now.cards index x was.card was.there;
+          point_is = tried_point x was.card ∙ was.point_is;
           book = record {
             book = is;
             true_to = subst (All (IsTrueTo child)) (sym here) (all_tried (IsTrueTo child) now.cards index x
@@ -191,7 +183,7 @@ fewer_left_of rule child old now after index attempt p was asks due cards =
     let soon = due_in_time rule was.card attempt (answer_there rule now index was.card (Next attempt) was.there asks) in
     let before : left_of rule (slice_get now.cards index) ≡ retries rule + 1 - was.card.failures = ap (left_of rule) was.there ∙ ap (left_by rule was.card.failures) d.none in
     let behind : left_of rule (slice_get after.cards index) ≡ left_of rule (Some (tried (child p attempt) was.card))
-    = ap (λ l. left_of rule (slice_get l index)) cards ∙ ap (left_of rule) (there_tried now.cards index (child p attempt) was.card was.there) in
+    = ap (λ l. left_of rule (slice_get l index)) cards ∙ ap (left_of rule) (attempt_at now.cards index (child p attempt) was.card was.there) in
     at (child p attempt) behind before d.none soon
   where
     at : (x : Said) → left_of rule (slice_get after.cards index) ≡ left_of rule (Some (tried x was.card)) → left_of rule (slice_get now.cards index) ≡ retries rule + 1 - was.card.failures →

@@ -4,13 +4,9 @@ use Rattle.dk_types.specs.declared.entry.Said.{Said}
 use Rattle.dk_types.specs.declared.entry.Said.TheVariants.{Failed}
 use Rattle.dk_types.specs.Cards.{Card}
 use Rattle.dk_book.specs.Books.{BookState, IsDue, with_attempt}
+use Rattle.dk_book.proofs.Tried.{attempt_length}
 use Rattle.dk_book.proofs.tests.book_of.Goals as goal
 use Rattle.dk_book.proofs.tests.book_of.Goals.{then-is_made, else-is_made}
-
--- an attempt of the first card adds no card
-as_many : (cards : List Card) (said : Said) → length (with_attempt cards 0 said) ≡ length cards
-as_many [] said = refl
-as_many (card ∷ cards) said = refl
 
 -- behind a failure the next attempt is due
 due_next : (cards : List Card) (attempt : ℕ) → IfSome (slice_get cards 0) (λ card. IsDue card attempt) →
@@ -20,7 +16,7 @@ due_next (card ∷ cards) attempt due = record { none = due.none; next = ap (λ 
 
 pub loop-made-preserved : goal.loop-made-preserved
 loop-made-preserved c = record {
-  card = ap length c.add.ensures.cards ∙ as_many c.loop-made.book.cards Failed ∙ c.loop-made.invariant.card;
+  card = ap length c.add.ensures.cards ∙ attempt_length c.loop-made.book.cards 0 Failed ∙ c.loop-made.invariant.card;
   due = subst (λ (cards : List Card). IfSome (slice_get cards 0) (λ card. IsDue card (c.loop-made.made + 1 + 1))) (sym c.add.ensures.cards)
       (due_next c.loop-made.book.cards (c.loop-made.made + 1) c.loop-made.invariant.due);
   room = omega arith;
@@ -29,6 +25,6 @@ loop-made-preserved c = record {
 
 pub returns : goal.returns
 returns c = elim c.if-is_made.branch [
-  | then-is_made w ↦ (ap (λ (book : BookState). length book.cards) w.book-is ∙ ap length w.add-then-is_made.ensures.cards ∙ as_many c.loop-made.book.cards _ ∙ c.loop-made.invariant.card)
+  | then-is_made w ↦ (ap (λ (book : BookState). length book.cards) w.book-is ∙ ap length w.add-then-is_made.ensures.cards ∙ attempt_length c.loop-made.book.cards 0 _ ∙ c.loop-made.invariant.card)
   | else-is_made w ↦ (ap (λ (book : BookState). length book.cards) w.book-is ∙ c.loop-made.invariant.card)
 ]

@@ -1,14 +1,13 @@
-use Rattle.std.proofs.Common.{sym, ap, subst, ◌∙◌, ◌+◌, ◌<◌, length, Some, None, arith}
+use Rattle.std.proofs.Common.{ap, ◌∙◌, ◌+◌, Some, None, arith}
 use Rattle.dk_types.specs.Answers.{given_up}
-use Rattle.dk_book.specs.Books.{BookState}
 use Rattle.dk_book.proofs.book.Book.answer.Goals as goal
-use Rattle.dk_book.proofs.Read.{within_marks, is_read, row_there, values_there, none_there, answer_given_up, answer_behind, asks_due, answer_entries}
+use Rattle.dk_book.proofs.Placed.{point_there}
+use Rattle.dk_book.proofs.Read.{is_read, row_there, values_there, none_there, answer_given_up, answer_behind, asks_due, answer_entries}
 
 pub index-mark-requires : goal.index-mark-requires
 index-mark-requires c =
-    let l : c.args.card.index < length c.self.inside.marks.items = within_marks c.self.inside.values.rows c.self.inside.points.rows c.self.inside.marks.items c.args.card.index
-    (subst (λ (b : BookState). c.args.card.index < length b.cards) (sym c.self.view_is) c.requires.card) in
-    omega arith
+    let there = point_there _ _ _ _ _ c.self.invariant c.self.view_is c.requires.card in
+    omega (arith, c.self.invariant.enough)
 
 pub returns-then-mark-retries-clause-card : goal.returns-then-mark-retries-clause-card
 returns-then-mark-retries-clause-card c =

@@ -4,6 +4,7 @@ use Rattle.std.proofs.lemmas.Option.{get_or_from_slice_get}
 use Rattle.dk_types.specs.Best.{same_point}
 use Rattle.std.specs.Prelude.{option_map, slice_get}
 use Rattle.dk_types.specs.Cards.{Card, place_of}
+use Rattle.dk_book.specs.Kept.{unmarked}
 use Rattle.dk_book.specs.Books.{BookState}
 use Rattle.dk_book.proofs.Placed.{card_point, place_of_same, place_of_none}
 use Rattle.dk_book.proofs.book.Book.find.Goals as goal
@@ -18,7 +19,7 @@ pub returns-then-is_same_point-clause-point : goal.returns-then-is_same_point-cl
 returns-then-is_same_point-clause-point c =
     let enough = c.self.invariant.enough in
     sym (ap (λ (b : BookState). option_map (λ (card : Card). card.point) (slice_get b.cards c.loop-index.index)) c.self.view_is)
-    ∙ card_point c.self.inside.values.rows c.self.inside.points.rows c.self.inside.marks.items c.loop-index.index (omega arith)
+    ∙ card_point c.self.inside.values.rows c.self.inside.points.rows c.self.inside.marks.items c.loop-index.index unmarked (omega arith) (omega arith)
     ∙ c.row.ensures.row
     ∙ ap Some (c.is_same_point.ensures.pair c.if-is_same_point.true)
 

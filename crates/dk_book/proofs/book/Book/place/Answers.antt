@@ -3,6 +3,7 @@ use Rattle.std.specs.Prelude.{slice_get}
 use Rattle.std.proofs.lemmas.List.{length_push}
 use Rattle.dk_types.specs.Cards.{Card, place_of, blank, SumUp}
 use Rattle.dk_types.specs.Entries.{AreEntries}
+use Rattle.dk_book.specs.Kept.{unmarked}
 use Rattle.dk_book.specs.Books.{BookState, with_card}
 use Rattle.dk_book.specs.Kept.{cards_by}
 use Rattle.dk_book.specs.Told.{StandsFor}
@@ -56,7 +57,7 @@ returns-in-None-clause-point c =
     let enough = c.self.invariant.enough in
     let room = c.put_row.ensures.spare in
     let more = ap length c.put_row.ensures.rows ∙ length_push c.self.inside.points.rows c.args.point.now in
-    card_point c.self.inside.values.rows c.put_row.new.self.rows c.self.inside.marks.items c.put_row.result.index (omega arith)
+    card_point c.self.inside.values.rows c.put_row.new.self.rows c.self.inside.marks.items c.put_row.result.index unmarked (omega arith) (let at = c.put_row.ensures.id in omega arith)
     ∙ ap (λ rows. slice_get rows c.put_row.result.index) c.put_row.ensures.rows
     ∙ ap (slice_get (c.self.inside.points.rows ++ c.args.point.now ∷ [])) c.put_row.ensures.id
     ∙ item_last c.self.inside.points.rows c.args.point.now

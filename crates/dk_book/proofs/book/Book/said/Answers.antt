@@ -1,13 +1,12 @@
-use Rattle.std.proofs.Common.{sym, subst, ◌∙◌, ◌<◌, length, Some, None, arith}
-use Rattle.dk_book.specs.Books.{BookState}
+use Rattle.std.proofs.Common.{◌∙◌, Some, None, arith}
 use Rattle.dk_book.proofs.book.Book.said.Goals as goal
-use Rattle.dk_book.proofs.Read.{within_marks, is_read, row_there, values_there, none_there, said_before, said_failed, said_behind, said_past, said_entries}
+use Rattle.dk_book.proofs.Placed.{point_there}
+use Rattle.dk_book.proofs.Read.{is_read, row_there, values_there, none_there, said_before, said_failed, said_behind, said_past, said_entries}
 
 pub index-mark-requires : goal.index-mark-requires
 index-mark-requires c =
-    let l : c.args.card.index < length c.self.inside.marks.items = within_marks c.self.inside.values.rows c.self.inside.points.rows c.self.inside.marks.items c.args.card.index
-    (subst (λ (b : BookState). c.args.card.index < length b.cards) (sym c.self.view_is) c.requires) in
-    omega arith
+    let there = point_there _ _ _ _ _ c.self.invariant c.self.view_is c.requires in
+    omega (arith, c.self.invariant.enough)
 
 pub returns-then-attempt-eq0-clause-card : goal.returns-then-attempt-eq0-clause-card
 returns-then-attempt-eq0-clause-card c =
