@@ -1,8 +1,8 @@
 // The best row of a study.
-ghost use Rattle.std.specs.Prelude.{◌≡◌, ◌-◌, ◌<◌, ◌≤◌, length, position, option_map, Some, IfSome};
+ghost use Rattle.std.specs.Prelude.{◌≡◌, ◌-◌, ◌<◌, ◌≤◌, length, position, option_map, None, Some, IfSome};
 ghost use Rattle.std.specs.List.{All};
 ghost use Rattle.dk_types.specs.Best.{best as best_place, is_below as is_below_lem, is_least};
-ghost use Rattle.dk_report.specs.Widths.{HaveWidths};
+ghost use Rattle.dk_report.specs.Widths.{HaveWidths, HasOneObjective};
 
 use dk_num::Dec;
 use dk_types::{Rows, Study};
@@ -12,6 +12,7 @@ use dk_types::{Rows, Study};
 pub fn best<R: Rows>(study: &Study, rows: &R) -> Option<u32>
     requires widths { HaveWidths study.now (R.rows rows.now) }
     ensures value { option_map (λ row. row - 1) result ≡ best_place study.now (R.rows rows.now) }
+    ensures none { result ≡ None → HasOneObjective study.now → length (R.rows rows.now) ≡ 0 }
     ensures within { IfSome result (λ row. (1 ≤ row) × (row ≤ length (R.rows rows.now))) }
 {
     if !study.responses.objectives || study.responses.labels.items().len() != 1 {
