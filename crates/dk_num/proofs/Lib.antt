@@ -20,4 +20,6 @@ pub mod Scaling
 pub mod Endings
 pub mod Values
 pub mod ValueLaws
+pub mod Refusals
+pub mod UnitLaws
 pub mod ReadsBack

@@ -17,6 +17,15 @@ neg_times_neg zero p = let z : 0 * p ≡ 0 = omega arith in times_neg 0 p ∙ rw
 neg_times_neg (suc n) zero = let z : suc n * 0 ≡ 0 = omega arith in rw z refl
 neg_times_neg (suc n) (suc p) = refl
 
+twice_negated : (n : ℕ) → neg_ℤ (neg_ℤ (pos n)) ≡ pos n
+twice_negated zero = refl
+twice_negated (suc n) = refl
+
+-- with the other sign before or after
+pub negated_times : (z : ℤ) (p : ℕ) → neg_ℤ z *ℤ pos p ≡ neg_ℤ (z *ℤ pos p)
+negated_times (pos n) p = neg_times n p
+negated_times (negsuc n) p = sym (twice_negated (suc n * p))
+
 pub scaled_twice : (z : ℤ) (p q : ℕ) → (z *ℤ pos p) *ℤ pos q ≡ z *ℤ pos (p * q)
 scaled_twice (pos a) p q = ap pos (let e : a * p * q ≡ a * (p * q) = omega arith in e)
 scaled_twice (negsuc a) p q = neg_times (suc a * p) q ∙ ap (λ n. neg_ℤ (pos n)) (let e : suc a * p * q ≡ suc a * (p * q) = omega arith in e)

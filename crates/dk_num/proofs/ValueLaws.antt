@@ -91,10 +91,10 @@ sum_at_value e x y z below_x below_y low h =
     ∙ ap (λ v. v +ℤ (y.mantissa *ℤ pos (10 ^ unsigned_abs (y.exponent -ℤ e))) *ℤ pos (10 ^ unsigned_abs (e +ℤ pos 10032))) (common_value 10032 e x below_x low)
     ∙ ap (λ v. whole_value x +ℤ v) (common_value 10032 e y below_y low)
 
-sum_of_left_none : (x y : Decimal) → unsigned_abs x.mantissa ≡ 0 → sum_of x y ≡ Some y
+pub sum_of_left_none : (x y : Decimal) → unsigned_abs x.mantissa ≡ 0 → sum_of x y ≡ Some y
 sum_of_left_none x y e = rw e refl
 
-sum_of_right_none : (x y : Decimal) → 0 < unsigned_abs x.mantissa → unsigned_abs y.mantissa ≡ 0 → sum_of x y ≡ Some x
+pub sum_of_right_none : (x y : Decimal) → 0 < unsigned_abs x.mantissa → unsigned_abs y.mantissa ≡ 0 → sum_of x y ≡ Some x
 sum_of_right_none x y some e = let a : (unsigned_abs x.mantissa == 0) ≡ false = grind (arith, common_steps) in rw (a, e) refl
 
 -- which sum it is

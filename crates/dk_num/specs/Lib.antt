@@ -5,3 +5,4 @@ pub mod Numbers
 pub mod Reading
 pub mod Units
 pub mod Rounding
+pub mod Laws

@@ -4,10 +4,10 @@ use Rattle.std.specs.Int.Digits.{number_from_digits_after}
 use Rattle.dk_num.specs.Decimal.{digit_count, zero_count}
 use Rattle.dk_num.specs.Numbers.{Spelling}
 use Rattle.dk_num.specs.declared.mantissa.Significand.{Significand}
-use Rattle.dk_num.specs.declared.scan.Parts.{Parts}
+use Rattle.dk_num.specs.declared.scan.Pieces.{Pieces}
 
--- the parts, without what stands behind them
-abbrev pub spelling : Parts → Spelling
+-- the pieces, without what stands behind them
+abbrev pub spelling : Pieces → Spelling
 spelling p = record { sign = p.sign.now; whole = p.whole.now; point = p.point.now; fraction = p.fraction.now; mark = p.mark.now; exponent_sign = p.exponent_sign.now; exponent = p.exponent.now }
 
 -- a number with these digits behind it

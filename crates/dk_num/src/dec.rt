@@ -8,7 +8,8 @@ use std::marker::Model;
 
 const LIMIT: u128 = 10_000_000_000_000_000_000_000_000_000_000_000;
 
-/// A decimal: a whole number times a power of ten. Each value has one pair.
+/// A decimal: a whole number below 10^34 in absolute value, times a power of ten. It is zero, or the power of ten of
+/// its first digit is in -9999 to 9999. Each value has one pair.
 #[derive(Clone, Copy, Debug)]
 pub struct Dec {
     mantissa: i128,
@@ -156,24 +157,25 @@ impl Dec {
     ghost use Rattle.dk_num.specs.Decimal.{decimal_of, zero_decimal, IsCanonical};
     ghost use Rattle.dk_num.specs.Arithmetic.{product, sum_of, difference, negated};
 
-    pub(crate) fn pair(&self) -> (i128, i32)
-        ensures mantissa { result.0 ≡ self.now.mantissa }
-        ensures exponent { result.1 ≡ self.now.exponent }
-        ensures canonical { IsCanonical self.now }
+    /// Its pair: a whole number, and the power of ten that it is multiplied by.
+    pub fn pair(&self) -> (i128, i32)
+        ensures gives_mantissa { result.0 ≡ self.now.mantissa }
+        ensures gives_exponent { result.1 ≡ self.now.exponent }
+        ensures is_canonical { IsCanonical self.now }
     {
         (self.mantissa, self.exponent)
     }
 
     /// Whether it is zero.
     pub fn is_zero(&self) -> bool
-        ensures zero { IsTrue result ↔ (self.now.mantissa ≡ pos 0) }
-        ensures canonical { IsCanonical self.now }
+        ensures tells_zero { IsTrue result ↔ (self.now.mantissa ≡ pos 0) }
+        ensures is_canonical { IsCanonical self.now }
     {
         self.mantissa == 0
     }
 
     /// The mantissa, and how far the exponent lies above the least one.
-    pub(crate) fn parts(&self) -> (i128, u32)
+    pub(crate) fn lifted_pair(&self) -> (i128, u32)
         ensures mantissa { result.0 ≡ self.now.mantissa }
         ensures exponent { result.1 ≡ unsigned_abs (self.now.exponent +ℤ pos 10032) }
         ensures small { unsigned_abs result.0 < 10 ^ 34 }
@@ -232,10 +234,10 @@ impl Dec {
         Dec { mantissa, exponent }
     }
 
-    /// The whole number n.
+    /// The decimal with the value of a whole number of at most 34 digits.
     pub fn whole(n: i128) -> Dec
-        requires { unsigned_abs n < 10 ^ 34 }
-        ensures { decimal_of (record { mantissa = n; exponent = pos 0 }) ≡ Some result }
+        requires is_small { unsigned_abs n < 10 ^ 34 }
+        ensures is_the_number { decimal_of (record { mantissa = n; exponent = pos 0 }) ≡ Some result }
     {
         match Dec::of(n, 0) {
             Some(d) => d,
@@ -243,9 +245,11 @@ impl Dec {
         }
     }
 
-    /// The sum, or None where it has no decimal or one of the two mantissas, written with the lower exponent, has more than 34 digits.
+    /// The sum: the other number where one of the two is zero. Else both are written with the lower of their exponents,
+    /// and there is no sum exactly where one of the two mantissas so written, or the sum of the two, isn't below 10^34
+    /// in absolute value, or where that sum isn't zero and its first digit's power of ten isn't in -9999 to 9999.
     pub fn add(self, other: Dec) -> Option<Dec>
-        ensures { result ≡ sum_of self other }
+        ensures gives_sum { result ≡ sum_of self other }
     {
         if self.mantissa == 0 {
             return Some(other);
@@ -266,16 +270,18 @@ impl Dec {
         }
     }
 
-    /// The difference, or None where the sum with the other sign has none.
+    /// The difference: the sum with `other` under the other sign, and none exactly where that sum has none.
     pub fn sub(self, other: Dec) -> Option<Dec>
-        ensures { result ≡ difference self other }
+        ensures gives_difference { result ≡ difference self other }
     {
         self.add(other.negate())
     }
 
-    /// The product, or None where it has no decimal.
+    /// The product: zero where a factor is zero. Else there is no product exactly where that of the two mantissas,
+    /// multiplied before zeros at its end are taken off, isn't below 10^34 in absolute value, or where its first
+    /// digit's power of ten isn't in -9999 to 9999.
     pub fn mul(self, other: Dec) -> Option<Dec>
-        ensures { result ≡ product self other }
+        ensures gives_product { result ≡ product self other }
     {
         match mantissa_product(self.mantissa, other.mantissa) {
             None => None,

@@ -4,10 +4,10 @@ ghost use Rattle.dk_num.specs.Arithmetic.{ros};
 
 use crate::Dec;
 
-/// 100 * (x2 - x1 * x1)^2 + (1 - x1)^2, where each of its seven steps has a value:
-/// None exactly where one of them has none.
+/// Rosenbrock's function, of the driver `rosenbrock` (`analysis_drivers` in the Dakota Reference Manual):
+/// 100 * (x2 - x1 * x1)^2 + (1 - x1)^2, computed in seven steps. None exactly where one of them has no value.
 pub fn rosenbrock(x1: Dec, x2: Dec) -> Option<Dec>
-    ensures { result ≡ ros x1 x2 }
+    ensures gives_value { result ≡ ros x1 x2 }
 {
     let square = x1.mul(x1)?;
     let above = x2.sub(square)?;

@@ -90,7 +90,7 @@ pub(crate) fn digits_behind(number: Significand, digits: &[u8]) -> Option<Signif
 {
     let mut all = number;
     for digit in digits {
-        match behind(all, *digit - 48) {
+        match behind(all, *digit - b'0') {
             Some(more) => all = more,
             None => return None,
         }
@@ -115,7 +115,7 @@ pub(crate) fn bounded(digits: &[u8]) -> u128
 {
     let mut number = 0u128;
     for digit in digits {
-        number = bounded_behind(number, *digit - 48);
+        number = bounded_behind(number, *digit - b'0');
     }
     number
 }

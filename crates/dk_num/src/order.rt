@@ -20,8 +20,8 @@ impl PartialEq for Dec {
     ghost laws = { Prim.search (comparing, rules) };
 
     fn eq(&self, other: &Dec) -> bool
-        ensures value { result ≡ eq_by_cmp decimal_cmp self.now other.now }
-        ensures pair { IsTrue result ↔ (self.now ≡ other.now) }
+        ensures compares_values { result ≡ eq_by_cmp decimal_cmp self.now other.now }
+        ensures compares_pairs { IsTrue result ↔ (self.now ≡ other.now) }
     {
         let (a, p) = self.pair();
         let (b, q) = other.pair();
@@ -49,8 +49,8 @@ impl Ord for Dec {
     ghost matches_eq = { Prim.search (comparing, rules) };
 
     fn cmp(&self, other: &Dec) -> Ordering {
-        let (a, p) = self.parts();
-        let (b, q) = other.parts();
+        let (a, p) = self.lifted_pair();
+        let (b, q) = other.lifted_pair();
         compare(a, p, b, q)
     }
 }

@@ -1,12 +1,12 @@
 // The text of a number.
 ghost use Rattle.std.specs.Prelude.{◌≡◌, ◌+◌, ◌-◌, ◌<◌, ◌≤◌, ◌^◌, ◌++◌, ◌==◌, ◌&&◌, ◌||◌, length, min, nat_lt, ℤ, pos, ◌+ℤ◌, ◌-ℤ◌, unsigned_abs, MatchOption, IfSome, Result, if◌then◌else◌};
 ghost use Rattle.dk_num.specs.Decimal.{digit_count, zero_count, is_in_range};
-ghost use Rattle.dk_num.specs.Numbers.{AreDigits, read_of, number_of as number_of_lem, with_sign, numeral_value};
+ghost use Rattle.dk_num.specs.Numbers.{AreDigits, read_of, number_of, with_sign, numeral_value};
 ghost use Rattle.dk_num.specs.Reading.{spelling, IsSignificand, significant_count};
 
 use crate::Dec;
 use crate::mantissa::{Significand, bounded, digits_behind};
-use crate::scan::{Parts, cut};
+use crate::scan::{Pieces, cut};
 
 /// Why a text gives no decimal.
 #[derive(Clone, Copy, Debug, PartialEq, Eq)]
@@ -37,31 +37,31 @@ impl Dec {
     /// not in -9999 to 9999. Else it is the decimal with the number's value: zero whatever the exponent
     /// of a zero is.
     pub fn read(text: &[u8]) -> Result<Dec, NumFault>
-        ensures { result ≡ read_of text.now }
+        ensures gives_reading { result ≡ read_of text.now }
     {
         if text.is_empty() {
             return Err(NumFault::Empty);
         }
-        let parts = cut(text);
-        if is_complete(&parts) {
-            number_of(&parts)
+        let pieces = cut(text);
+        if is_complete(&pieces) {
+            number_of(&pieces)
         } else {
             Err(NumFault::Shape {
-                at: text.len() - parts.rest.len(),
+                at: text.len() - pieces.rest.len(),
             })
         }
     }
 }
 
-/// Whether the parts are a number's, with nothing behind them.
-fn is_complete(parts: &Parts) -> bool
-    requires { length parts.now.whole.now + length parts.now.fraction.now < 2 ^ 64 }
-    ensures { result ≡ ((length parts.now.rest.now == 0) && nat_lt 0 (length parts.now.whole.now + length parts.now.fraction.now)
-        && ((length parts.now.mark.now == 0) || nat_lt 0 (length parts.now.exponent.now))) }
+/// Whether the pieces are a number's, with nothing behind them.
+fn is_complete(pieces: &Pieces) -> bool
+    requires { length pieces.now.whole.now + length pieces.now.fraction.now < 2 ^ 64 }
+    ensures { result ≡ ((length pieces.now.rest.now == 0) && nat_lt 0 (length pieces.now.whole.now + length pieces.now.fraction.now)
+        && ((length pieces.now.mark.now == 0) || nat_lt 0 (length pieces.now.exponent.now))) }
 {
-    parts.rest.len() == 0
-        && parts.whole.len() + parts.fraction.len() > 0
-        && (parts.mark.len() == 0 || parts.exponent.len() > 0)
+    pieces.rest.len() == 0
+        && pieces.whole.len() + pieces.fraction.len() > 0
+        && (pieces.mark.len() == 0 || pieces.exponent.len() > 0)
 }
 
 /// The digits before the exponent, where at most 34 are left.
@@ -151,23 +151,23 @@ fn placed(mantissa: i128, count: u32, zeros: usize, place: i128) -> Result<Dec, 
 }
 
 /// The decimal of a number's text.
-fn number_of(parts: &Parts) -> Result<Dec, NumFault>
-    requires whole { AreDigits parts.now.whole.now }
-    requires fraction { AreDigits parts.now.fraction.now }
-    requires exponent { AreDigits parts.now.exponent.now }
-    requires room { length parts.now.whole.now + length parts.now.fraction.now < 2 ^ 64 }
-    ensures { result ≡ number_of_lem (spelling parts.now) }
+fn number_of(pieces: &Pieces) -> Result<Dec, NumFault>
+    requires whole { AreDigits pieces.now.whole.now }
+    requires fraction { AreDigits pieces.now.fraction.now }
+    requires exponent { AreDigits pieces.now.exponent.now }
+    requires room { length pieces.now.whole.now + length pieces.now.fraction.now < 2 ^ 64 }
+    ensures { result ≡ number_of (spelling pieces.now) }
 {
-    let number = match significand(parts.whole, parts.fraction) {
+    let number = match significand(pieces.whole, pieces.fraction) {
         Some(number) => number,
         None => return Err(NumFault::TooLong),
     };
     if number.core == 0 {
         return Ok(Dec::canonical(0, 0));
     }
-    let place = last_place(parts.exponent_sign, parts.exponent, parts.fraction.len());
+    let place = last_place(pieces.exponent_sign, pieces.exponent, pieces.fraction.len());
     placed(
-        signed(parts.sign, number.core),
+        signed(pieces.sign, number.core),
         number.count,
         number.zeros,
         place,

@@ -4,11 +4,11 @@ ghost use Rattle.dk_num.specs.Rounding.{rounded_quotient, IsNearest};
 
 /// The whole number nearest to `n` divided by `d`; in the middle between two it is the one away from zero.
 pub fn divide_round(n: i128, d: i128) -> i128
-    requires positive { pos 0 <ℤ d }
-    requires divisor { d ≤ℤ pos 100000 }
-    requires dividend { unsigned_abs n < 10 ^ 37 }
-    ensures value { result ≡ rounded_quotient n (unsigned_abs d) }
-    ensures nearest { IsNearest n (unsigned_abs d) result }
+    requires has_positive_divisor { pos 0 <ℤ d }
+    requires has_small_divisor { d ≤ℤ pos 100000 }
+    requires has_small_dividend { unsigned_abs n < 10 ^ 37 }
+    ensures gives_quotient { result ≡ rounded_quotient n (unsigned_abs d) }
+    ensures is_nearest { IsNearest n (unsigned_abs d) result }
 {
     let magnitude = rounded(n.unsigned_abs(), d.unsigned_abs());
     if n < 0 { -magnitude } else { magnitude }

@@ -1,12 +1,12 @@
-// The parts of a number's text.
+// A number's text in pieces.
 ghost use Rattle.std.specs.Prelude.{◌≡◌, ◌+◌, ◌<◌, ◌≤◌, ◌++◌, length, Bool, IsTrue};
 ghost use Rattle.std.specs.List.{prefix_len};
-ghost use Rattle.dk_num.specs.Numbers.{AreDigits, is_digit as is_digit_lem, is_sign_byte, is_mark_byte, is_point_byte, front_byte, parts, spelled};
+ghost use Rattle.dk_num.specs.Numbers.{AreDigits, is_digit, is_sign_byte, is_mark_byte, is_point_byte, front_byte, parts, spelled};
 ghost use Rattle.dk_num.specs.Reading.{spelling};
 
-/// The parts of a number's text, and what stands behind them.
+/// A number's text in pieces, and what stands behind them.
 #[derive(Clone, Copy)]
-pub(crate) struct Parts<'a> {
+pub(crate) struct Pieces<'a> {
     pub(crate) sign: &'a [u8],
     pub(crate) whole: &'a [u8],
     pub(crate) point: &'a [u8],
@@ -18,26 +18,26 @@ pub(crate) struct Parts<'a> {
 }
 
 fn is_digit(byte: u8) -> bool
-    ensures { result ≡ is_digit_lem byte }
+    ensures { result ≡ is_digit byte }
 {
-    48 <= byte && byte <= 57
+    b'0' <= byte && byte <= b'9'
 }
 
 fn is_sign(byte: u8) -> bool
     ensures { result ≡ is_sign_byte byte }
 {
-    byte == 43 || byte == 45
+    byte == b'+' || byte == b'-'
 }
 
 fn is_mark(byte: u8) -> bool
     ensures { result ≡ is_mark_byte byte }
 {
-    byte == 69 || byte == 101
+    byte == b'E' || byte == b'e'
 }
 
 /// How many digits the text begins with.
 fn digit_run(text: &[u8]) -> usize
-    ensures run { result ≡ prefix_len is_digit_lem text.now }
+    ensures run { result ≡ prefix_len is_digit text.now }
     ensures within { result ≤ length text.now }
 {
     for (i, byte) in text.iter().enumerate() {
@@ -65,7 +65,7 @@ fn point_run(text: &[u8]) -> usize
     ensures run { result ≡ length (front_byte is_point_byte text.now) }
     ensures within { result ≤ length text.now }
 {
-    if !text.is_empty() && text[0] == 46 {
+    if !text.is_empty() && text[0] == b'.' {
         1
     } else {
         0
@@ -84,8 +84,8 @@ fn mark_run(text: &[u8]) -> usize
     }
 }
 
-/// The parts that the text begins with, each as long as it can be.
-pub(crate) fn cut<'a>(text: &'a [u8]) -> Parts<'a>
+/// The pieces that the text begins with, each as long as it can be.
+pub(crate) fn cut<'a>(text: &'a [u8]) -> Pieces<'a>
     ensures parts { spelling result ≡ parts text.now }
     ensures bytes { text.now ≡ spelled (spelling result) ++ result.rest.now }
     ensures few { length result.whole.now + length result.fraction.now ≤ length text.now }
@@ -99,7 +99,7 @@ pub(crate) fn cut<'a>(text: &'a [u8]) -> Parts<'a>
     let marked = mark.len() > 0;
     let (exponent_sign, rest) = rest.split_at(if marked { sign_run(rest) } else { 0 });
     let (exponent, rest) = rest.split_at(if marked { digit_run(rest) } else { 0 });
-    Parts {
+    Pieces {
         sign,
         whole,
         point,

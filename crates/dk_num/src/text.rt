@@ -7,20 +7,22 @@ use crate::Dec;
 use crate::line::Line;
 
 impl Dec {
-    /// Writes the plain text at the front, and answers its length.
+    /// Writes the text of tables and summaries at the front, and answers its length in bytes, at most 42. It is plain
+    /// where the power of ten of the first digit is in -6 to 33, and else has an exponent.
     pub fn table_text(&self, out: &mut [u8; 64]) -> usize
-        ensures text { take result out.new ≡ table_text self.now }
-        ensures length { result ≤ 42 }
+        ensures writes_text { take result out.new ≡ table_text self.now }
+        ensures is_short { result ≤ 42 }
     {
         let (mantissa, exponent) = self.pair();
         text_of(mantissa, exponent).write(out)
     }
 
-    /// Writes the text of a parameters file at the front, and answers its length: a point behind the first digit, at
-    /// least 15 digits behind the point and an exponent of at least two digits. Zero is 0.000000000000000e+00.
+    /// Writes the text of a parameters file at the front, and answers its length in bytes, at most 42: a point behind
+    /// the first digit, at least 15 digits behind the point and an exponent of at least two digits. Zero is
+    /// 0.000000000000000e+00.
     pub fn sci_text(&self, out: &mut [u8; 64]) -> usize
-        ensures text { take result out.new ≡ sci_text self.now }
-        ensures length { result ≤ 42 }
+        ensures writes_text { take result out.new ≡ sci_text self.now }
+        ensures is_short { result ≤ 42 }
     {
         let (mantissa, exponent) = self.pair();
         sci_of(mantissa, exponent).write(out)

@@ -1,14 +1,15 @@
 // Whole numbers of a unit.
 ghost use Rattle.std.specs.Prelude.{◌≡◌, ◌+◌, ◌-◌, ◌*◌, ◌^◌, ◌<◌, ◌≤◌, ◌≤ℤ◌, ◌+ℤ◌, ◌-ℤ◌, ◌*ℤ◌, pos, neg_ℤ, unsigned_abs, Some, None, MatchResult, IfOk, IfSome, if◌then◌else◌};
 ghost use Rattle.dk_num.specs.Decimal.{Decimal, IsCanonical, decimal_of, digit_count, leading, is_zero};
-ghost use Rattle.dk_num.specs.Units.{is_moderate, AreModerate, unit_exponent, greatest_leading, IsUnitExponent, AreWithin, IsWithin, units_of, greater_of, IsModerateExponent};
+ghost use Rattle.dk_num.specs.Units.{is_moderate, AreModerate, unit_exponent, greatest_leading, IsUnitExponent, AreWithin, IsWithin, units_of, greater_of, IsModerateExponent, in_units};
 
 use crate::Dec;
 use crate::dec::{digits, power_of_ten};
 
-/// A study's unit: ten to the power of `exponent`.
+/// A study's unit: a power of ten.
 #[derive(Clone, Copy, Debug, PartialEq, Eq)]
 pub struct Unit {
+    /// The power.
     pub exponent: i32,
 }
 
@@ -19,7 +20,7 @@ pub struct OffGrid;
 impl Dec {
     /// Whether it is zero or its leading exponent is in -400..400, as the numbers of a study have to be.
     pub fn is_moderate(&self) -> bool
-        ensures { result ≡ is_moderate self.now }
+        ensures tells_moderate { result ≡ is_moderate self.now }
     {
         match self.leading() {
             None => true,
@@ -65,10 +66,10 @@ fn greatest_leading(numbers: &[Dec]) -> Option<i32>
 
 /// The unit of some numbers: 28 below the greatest leading exponent of those that aren't zero, -28 where all are.
 pub fn unit_of(numbers: &[Dec]) -> Unit
-    requires { AreModerate numbers.now }
-    ensures exponent { result.exponent ≡ unit_exponent numbers.now }
-    ensures range { IsUnitExponent result.exponent }
-    ensures within { AreWithin result.exponent numbers.now }
+    requires are_moderate { AreModerate numbers.now }
+    ensures gives_exponent { result.exponent ≡ unit_exponent numbers.now }
+    ensures is_unit_exponent { IsUnitExponent result.exponent }
+    ensures holds_all { AreWithin result.exponent numbers.now }
 {
     let leading = greatest_leading(numbers).unwrap_or(0);
     Unit {
@@ -94,11 +95,11 @@ fn lengthened(mantissa: i128, places: u32) -> i128
     mantissa * power_of_ten(places) as i128
 }
 
-/// How many units a decimal is; refused exactly where it isn't a whole number of them.
+/// How many units a decimal is, in at most 29 digits. `OffGrid` exactly where it isn't a whole number of them.
 pub fn to_units(d: Dec, unit: Unit) -> Result<i128, OffGrid>
-    requires { IsWithin unit.exponent d }
-    ensures units { MatchResult result (λ k. units_of unit.exponent d ≡ Some k) (λ _. units_of unit.exponent d ≡ None) }
-    ensures few { IfOk result (λ k. unsigned_abs k < 10 ^ 29) }
+    requires is_within { IsWithin unit.exponent d }
+    ensures counts_units { MatchResult result (λ k. units_of unit.exponent d ≡ Some k) (λ _. units_of unit.exponent d ≡ None) }
+    ensures has_few_digits { IfOk result (λ k. unsigned_abs k < 10 ^ 29) }
 {
     let (mantissa, exponent) = d.pair();
     if mantissa == 0 {
@@ -110,11 +111,11 @@ pub fn to_units(d: Dec, unit: Unit) -> Result<i128, OffGrid>
     Ok(lengthened(mantissa, places_above(exponent, unit.exponent)))
 }
 
-/// The decimal of so many units.
+/// The decimal with the value of so many units.
 pub fn from_units(k: i128, unit: Unit) -> Dec
-    requires small { unsigned_abs k < 10 ^ 34 }
-    requires exponent { IsUnitExponent unit.exponent }
-    ensures { decimal_of (record { mantissa = k; exponent = unit.exponent }) ≡ Some result }
+    requires is_small { unsigned_abs k < 10 ^ 34 }
+    requires is_unit_exponent { IsUnitExponent unit.exponent }
+    ensures gives_units { result ≡ in_units unit.exponent k }
 {
     match Dec::of(k, unit.exponent) {
         Some(d) => d,

@@ -8,11 +8,11 @@ ghost use Rattle.dk_num.specs.declared.read.NumFault.{NumFault};
 /// What `Dec::read` answers is what the grammar of a number's text says, and nothing else is.
 pub fn each_text_reads()
     ensures means { (text : List ℕ) → ReadsAs text (read_of text) }
-    ensures only { (text : List ℕ) (result : Result Decimal NumFault) → ReadsAs text result → result ≡ read_of text }
+    ensures means_nothing_else { (text : List ℕ) (result : Result Decimal NumFault) → ReadsAs text result → result ≡ read_of text }
 {}
 
 /// Both texts of a decimal are read as that decimal.
 pub fn each_decimal_reads_back()
-    ensures table { (d : Decimal) → IsCanonical d → read_of (table_text d) ≡ Ok d }
-    ensures sci { (d : Decimal) → IsCanonical d → read_of (sci_text d) ≡ Ok d }
+    ensures reads_table_text { (d : Decimal) → IsCanonical d → read_of (table_text d) ≡ Ok d }
+    ensures reads_sci_text { (d : Decimal) → IsCanonical d → read_of (sci_text d) ≡ Ok d }
 {}

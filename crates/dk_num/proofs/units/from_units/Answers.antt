@@ -10,6 +10,6 @@ pub unreachable-requires : goal.unreachable-requires
 unreachable-requires c =
     let k : to_z w128 (of_z w128 c.args.k) ≡ c.args.k = to_z-of_z w128 _ c.ranges.k in
     let e : to_z w32 (of_z w32 c.args.unit.exponent) ≡ c.args.unit.exponent = to_z-of_z w32 _ (search rules) in
-    let got = units_some c.args.k c.args.unit.exponent c.requires.small c.requires.exponent in
+    let got = units_some c.args.k c.args.unit.exponent c.requires.is_small c.requires.is_unit_exponent in
     let none = sym c.in-None.is ∙ c.of.ensures ∙ ap decimal_of (same_decimal k e) ∙ got.1 in
     cc

@@ -18,13 +18,15 @@ sum-requires-clause-near_second c =
     rw e (omega arith)
 
 pub returns : goal.returns
-returns c =
-    let a : to_z w128 (of_z w128 c.self.inside.mantissa) ≡ c.self.inside.mantissa = to_z-of_z w128 _ (search rules) in
-    let b : to_z w128 (of_z w128 c.other.inside.mantissa) ≡ c.other.inside.mantissa = to_z-of_z w128 _ (search rules) in
-    let p : to_z w32 (of_z w32 c.self.inside.exponent) ≡ c.self.inside.exponent = to_z-of_z w32 _ (search rules) in
-    let q : to_z w32 (of_z w32 c.other.inside.exponent) ≡ c.other.inside.exponent = to_z-of_z w32 _ (search rules) in
-    rw (← c.self.view_is, ← c.other.view_is)
-    (rw (a, b, p, q) at c.sum.ensures ∙ sym (sum_of_some
-    (record { mantissa = c.self.inside.mantissa; exponent = c.self.inside.exponent })
-    (record { mantissa = c.other.inside.mantissa; exponent = c.other.inside.exponent })
-    (nonzero c.self.inside.mantissa c.if-self-eq0.false) (nonzero c.other.inside.mantissa c.if-other-eq0.false)))
+returns c = record {
+  gives_sum =
+      let a : to_z w128 (of_z w128 c.self.inside.mantissa) ≡ c.self.inside.mantissa = to_z-of_z w128 _ (search rules) in
+      let b : to_z w128 (of_z w128 c.other.inside.mantissa) ≡ c.other.inside.mantissa = to_z-of_z w128 _ (search rules) in
+      let p : to_z w32 (of_z w32 c.self.inside.exponent) ≡ c.self.inside.exponent = to_z-of_z w32 _ (search rules) in
+      let q : to_z w32 (of_z w32 c.other.inside.exponent) ≡ c.other.inside.exponent = to_z-of_z w32 _ (search rules) in
+      rw (← c.self.view_is, ← c.other.view_is)
+      (rw (a, b, p, q) at c.sum.ensures ∙ sym (sum_of_some
+      (record { mantissa = c.self.inside.mantissa; exponent = c.self.inside.exponent })
+      (record { mantissa = c.other.inside.mantissa; exponent = c.other.inside.exponent })
+      (nonzero c.self.inside.mantissa c.if-self-eq0.false) (nonzero c.other.inside.mantissa c.if-other-eq0.false)));
+}

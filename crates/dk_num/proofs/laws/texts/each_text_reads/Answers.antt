@@ -4,5 +4,5 @@ use Rattle.dk_num.proofs.laws.texts.each_text_reads.Goals as goal
 pub returns-clause-means : goal.returns-clause-means
 returns-clause-means c = reads_as
 
-pub returns-clause-only : goal.returns-clause-only
-returns-clause-only c = reads_only
+pub returns-clause-means_nothing_else : goal.returns-clause-means_nothing_else
+returns-clause-means_nothing_else c = reads_only

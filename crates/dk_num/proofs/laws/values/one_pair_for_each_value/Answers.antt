@@ -1,8 +1,8 @@
 use Rattle.dk_num.proofs.ValueLaws.{one_for_a_value, one_for_equals}
 use Rattle.dk_num.proofs.laws.values.one_pair_for_each_value.Goals as goal
 
-pub returns-clause-values : goal.returns-clause-values
-returns-clause-values c = one_for_a_value
+pub returns-clause-holds_by_value : goal.returns-clause-holds_by_value
+returns-clause-holds_by_value c = one_for_a_value
 
-pub returns-clause-order : goal.returns-clause-order
-returns-clause-order c = one_for_equals
+pub returns-clause-holds_by_order : goal.returns-clause-holds_by_order
+returns-clause-holds_by_order c = one_for_equals
