@@ -9,7 +9,7 @@ use Rattle.dk_types.specs.declared.rows.Row.{Row}
 use Rattle.dk_types.specs.Points.{point, size}
 use Rattle.dk_types.specs.Planned.{next, At, Over}
 use Rattle.dk_types.specs.Answers.{Value}
-use Rattle.dk_types.specs.Solo.{Alone, finished, aborted, waits, goes_on, Answers, Verdict, with_row}
+use Rattle.dk_types.specs.Solo.{Alone, finished, aborted, waits, goes_on, Outcomes, Verdict, with_row}
 use Rattle.dk_types.specs.Laws.{AnswersPoints, answer_in}
 use Rattle.dk_types.proofs.Once.{next_over, next_at, length_more}
 
@@ -21,12 +21,12 @@ item_of (z ∷ xs) y zero x h = inl h
 item_of (z ∷ xs) y (suc i) x h = elim (item_of xs y i x h) [ inl k ↦ inl k | inr k ↦ inr (ap suc k.0, k.1) ]
 
 -- the rows so far are those of the first points
-record Answered (study : Study) (answers : Answers) (rows : List Row) : Type 0 where
+record Answered (study : Study) (outcomes : Outcomes) (rows : List Row) : Type 0 where
   points : (i : ℕ) (row : Row) → slice_get rows i ≡ Some row → row.point ≡ point study i
-  values : (i : ℕ) (row : Row) → slice_get rows i ≡ Some row → answer_in study answers row.point ≡ Value row.values
+  values : (i : ℕ) (row : Row) → slice_get rows i ≡ Some row → answer_in study outcomes row.point ≡ Value row.values
 
-answered_none : (study : Study) (answers : Answers) → Answered study answers []
-answered_none study answers = record { points = λ i row h. absurd (cc); values = λ i row h. absurd (cc) }
+answered_none : (study : Study) (outcomes : Outcomes) → Answered study outcomes []
+answered_none study outcomes = record { points = λ i row h. absurd (cc); values = λ i row h. absurd (cc) }
 
 -- a point comes next only where one is left
 record IsNext (study : Study) (rows : List Row) (p : List Decimal) : Type 0 where
@@ -47,28 +47,28 @@ none_left study rows why h = at (nat_lt (length rows) (size study)) refl
     at true e = let k = next_at study rows e in absurd (cc)
     at false e = λ l. grind (arith, common_steps)
 
-answered_more : (study : Study) (answers : Answers) (rows : List Row) (p v : List Decimal) → next study rows ≡ At p → answer_in study answers p ≡ Value v →
-    Answered study answers rows → Answered study answers (with_row rows p v)
-answered_more study answers rows p v e a was = record {
+answered_more : (study : Study) (outcomes : Outcomes) (rows : List Row) (p v : List Decimal) → next study rows ≡ At p → answer_in study outcomes p ≡ Value v →
+    Answered study outcomes rows → Answered study outcomes (with_row rows p v)
+answered_more study outcomes rows p v e a was = record {
   points = λ i row h. elim (item_of rows (record { point = p; values = v }) i row h) [
     | inl k ↦ was.points i row k
     | inr k ↦ ap (λ (r : Row). r.point) k.1 ∙ (is_next study rows p e).is ∙ ap (point study) (sym k.0)
   ];
   values = λ i row h. elim (item_of rows (record { point = p; values = v }) i row h) [
     | inl k ↦ was.values i row k
-    | inr k ↦ ap (λ (r : Row). answer_in study answers r.point) k.1 ∙ a ∙ ap (λ (r : Row). Value r.values) (sym k.1)
+    | inr k ↦ ap (λ (r : Row). answer_in study outcomes r.point) k.1 ∙ a ∙ ap (λ (r : Row). Value r.values) (sym k.1)
   ];
 }
 
-all_from : (study : Study) (answers : Answers) (rows last : List Row) (verdict : Verdict) → Alone study answers rows last verdict →
-    length rows < size study + 1 → Answered study answers rows → AnswersPoints study answers last verdict
-all_from study answers _ _ _ (finished rows why e) few was = record { points = was.points; values = was.values; stands = (let n = none_left study rows why e in grind arith) }
-all_from study answers _ _ _ (aborted rows p attempts e a) few was =
-    let k = is_next study rows p e in record { points = was.points; values = was.values; stands = (k.left, sym (ap (answer_in study answers) k.is) ∙ a, refl) }
-all_from study answers _ _ _ (waits rows p attempt e a) few was =
-    let k = is_next study rows p e in record { points = was.points; values = was.values; stands = (k.left, sym (ap (answer_in study answers) k.is) ∙ a, k.is) }
-all_from study answers _ _ _ (goes_on rows p v last verdict e a s) few was =
-    all_from study answers (with_row rows p v) last verdict s (let k = is_next study rows p e in let l = length_more rows p v in omega arith) (answered_more study answers rows p v e a was)
+all_from : (study : Study) (outcomes : Outcomes) (rows last : List Row) (verdict : Verdict) → Alone study outcomes rows last verdict →
+    length rows < size study + 1 → Answered study outcomes rows → AnswersPoints study outcomes last verdict
+all_from study outcomes _ _ _ (finished rows why e) few was = record { points = was.points; values = was.values; stands = (let n = none_left study rows why e in grind arith) }
+all_from study outcomes _ _ _ (aborted rows p attempts e a) few was =
+    let k = is_next study rows p e in record { points = was.points; values = was.values; stands = (k.left, sym (ap (answer_in study outcomes) k.is) ∙ a, refl) }
+all_from study outcomes _ _ _ (waits rows p attempt e a) few was =
+    let k = is_next study rows p e in record { points = was.points; values = was.values; stands = (k.left, sym (ap (answer_in study outcomes) k.is) ∙ a, k.is) }
+all_from study outcomes _ _ _ (goes_on rows p v last verdict e a s) few was =
+    all_from study outcomes (with_row rows p v) last verdict s (let k = is_next study rows p e in let l = length_more rows p v in omega arith) (answered_more study outcomes rows p v e a was)
 
-pub rows_are_points : (study : Study) (answers : Answers) (rows : List Row) (verdict : Verdict) → Alone study answers [] rows verdict → AnswersPoints study answers rows verdict
-rows_are_points study answers rows verdict s = all_from study answers [] rows verdict s (omega arith) (answered_none study answers)
+pub rows_are_points : (study : Study) (outcomes : Outcomes) (rows : List Row) (verdict : Verdict) → Alone study outcomes [] rows verdict → AnswersPoints study outcomes rows verdict
+rows_are_points study outcomes rows verdict s = all_from study outcomes [] rows verdict s (omega arith) (answered_none study outcomes)

@@ -12,7 +12,7 @@ use Rattle.dk_types.specs.declared.rows.Row.{Row}
 use Rattle.dk_types.specs.Best.{same_point}
 use Rattle.dk_types.specs.Entries.{said}
 use Rattle.dk_types.specs.Answers.{Answer, Value, Dead, retries, given_up, by_attempt, answer_from, answer_by, answer}
-use Rattle.dk_types.specs.Solo.{Alone, finished, aborted, waits, goes_on, Answers, answers_of, Child, Verdict, Ended, Solo, Seq, with_row}
+use Rattle.dk_types.specs.Solo.{Alone, finished, aborted, waits, goes_on, Outcomes, outcomes_of, Child, Verdict, Ended, Solo, Seq, with_row}
 use Rattle.dk_types.specs.Laws.{answer_in}
 use Rattle.dk_types.specs.EntryLaws.{is_answered, Agree, AreAnswersOf}
 use Rattle.dk_types.proofs.Once.{alone_once, turns_by, same_ending}
@@ -49,26 +49,26 @@ answer_same rule f g same = from_same rule f g same (retries rule) 1
 -- A study
 
 -- what an attempt gave on one side, it gave on the other
-abbrev pub Extends : (f g : Answers) → Type 0
+abbrev pub Extends : (f g : Outcomes) → Type 0
 Extends f g = (p : List Decimal) (attempt : ℕ) (one : Said) → f p attempt ≡ Some one → g p attempt ≡ Some one
 
 -- no attempt gave one thing on one side and another on the other
-abbrev pub AnswersAgree : (f g : Answers) → Type 0
+abbrev pub AnswersAgree : (f g : Outcomes) → Type 0
 AnswersAgree f g = (p : List Decimal) (attempt : ℕ) (one other : Said) → f p attempt ≡ Some one → g p attempt ≡ Some other → one ≡ other
 
 -- a point that has its values keeps them
-value_stays : (study : Study) (f g : Answers) → Extends f g → (p : List Decimal) (a : Answer) → is_answered a ≡ true → answer_in study f p ≡ a → answer_in study g p ≡ a
+value_stays : (study : Study) (f g : Outcomes) → Extends f g → (p : List Decimal) (a : Answer) → is_answered a ≡ true → answer_in study f p ≡ a → answer_in study g p ≡ a
 value_stays study f g more p a h e = answer_stays study.interface.rule (f p) (g p) (more p) (ap is_answered e ∙ h) ∙ e
 
 -- what a study comes to is kept, once it is decided
-pub alone_stays : (study : Study) (f g : Answers) → Extends f g → (rows last : List Row) (ending : Ending) → Alone study f rows last (Ended ending) → Alone study g rows last (Ended ending)
+pub alone_stays : (study : Study) (f g : Outcomes) → Extends f g → (rows last : List Row) (ending : Ending) → Alone study f rows last (Ended ending) → Alone study g rows last (Ended ending)
 alone_stays study f g more _ _ _ (finished rows why e) = finished rows why e
 alone_stays study f g more _ _ _ (aborted rows p attempts e a) = aborted rows p attempts e (value_stays study f g more p (Dead attempts) refl a)
 alone_stays study f g more _ _ ending (goes_on rows p v last verdict e a s) =
     goes_on rows p v last (Ended ending) e (value_stays study f g more p (Value v) refl a) (alone_stays study f g more (with_row rows p v) last ending s)
 
 -- where more attempts are made, a study comes past the rows that it came to
-pub alone_leads : (study : Study) (f g : Answers) → Extends f g → (rows last others : List Row) (verdict other : Verdict) →
+pub alone_leads : (study : Study) (f g : Outcomes) → Extends f g → (rows last others : List Row) (verdict other : Verdict) →
     Alone study f rows last verdict → Alone study g rows others other → Alone study g last others other
 alone_leads study f g more _ _ others _ other (finished rows why e) t = t
 alone_leads study f g more _ _ others _ other (aborted rows p attempts e a) t = t
@@ -78,7 +78,7 @@ alone_leads study f g more _ _ others _ other (goes_on rows p v last verdict e a
     (turns_by study g rows others other p (Value v) e (value_stays study f g more p (Value v) refl a) t)
 
 -- and what it comes to from there on, it comes to from where it began
-pub alone_resumes : (study : Study) (f g : Answers) → Extends f g → (rows last others : List Row) (verdict other : Verdict) →
+pub alone_resumes : (study : Study) (f g : Outcomes) → Extends f g → (rows last others : List Row) (verdict other : Verdict) →
     Alone study f rows last verdict → Alone study g last others other → Alone study g rows others other
 alone_resumes study f g more _ _ others _ other (finished rows why e) t = t
 alone_resumes study f g more _ _ others _ other (aborted rows p attempts e a) t = t
@@ -87,7 +87,7 @@ alone_resumes study f g more _ _ others _ other (goes_on rows p v last verdict e
     goes_on rows p v others other e (value_stays study f g more p (Value v) refl a) (alone_resumes study f g more (with_row rows p v) last others verdict other s t)
 
 -- a study only adds rows
-pub alone_grows : (study : Study) (f : Answers) (rows last : List Row) (verdict : Verdict) → Alone study f rows last verdict → (behind : List Row) × (last ≡ rows ++ behind)
+pub alone_grows : (study : Study) (f : Outcomes) (rows last : List Row) (verdict : Verdict) → Alone study f rows last verdict → (behind : List Row) × (last ≡ rows ++ behind)
 alone_grows study f _ _ _ (finished rows why e) = ([], sym (append-nil rows))
 alone_grows study f _ _ _ (aborted rows p attempts e a) = ([], sym (append-nil rows))
 alone_grows study f _ _ _ (waits rows p attempt e a) = ([], sym (append-nil rows))
@@ -96,12 +96,12 @@ alone_grows study f _ _ _ (goes_on rows p v last verdict e a s) =
     let k = alone_grows study f (with_row rows p v) last verdict s in (row ∷ k.0, k.1 ∙ append_assoc rows (row ∷ []) k.0)
 
 -- the rows that a study came to are kept
-pub alone_rows_stay : (study : Study) (f g : Answers) → Extends f g → (rows last others : List Row) (verdict other : Verdict) →
+pub alone_rows_stay : (study : Study) (f g : Outcomes) → Extends f g → (rows last others : List Row) (verdict other : Verdict) →
     Alone study f rows last verdict → Alone study g rows others other → (behind : List Row) × (others ≡ last ++ behind)
 alone_rows_stay study f g more rows last others verdict other s t = alone_grows study g last others other (alone_leads study f g more rows last others verdict other s t)
 
 -- attempts that gave the same bring a study to the same
-pub alone_same : (study : Study) (f g : Answers) → ((p : List Decimal) (attempt : ℕ) → f p attempt ≡ g p attempt) → (rows last : List Row) (verdict : Verdict) →
+pub alone_same : (study : Study) (f g : Outcomes) → ((p : List Decimal) (attempt : ℕ) → f p attempt ≡ g p attempt) → (rows last : List Row) (verdict : Verdict) →
     Alone study f rows last verdict → Alone study g rows last verdict
 alone_same study f g same _ _ _ (finished rows why e) = finished rows why e
 alone_same study f g same _ _ _ (aborted rows p attempts e a) = aborted rows p attempts e (sym (answer_same study.interface.rule (f p) (g p) (same p)) ∙ a)
@@ -110,13 +110,13 @@ alone_same study f g same _ _ _ (goes_on rows p v last verdict e a s) =
     goes_on rows p v last verdict e (sym (answer_same study.interface.rule (f p) (g p) (same p)) ∙ a) (alone_same study f g same (with_row rows p v) last verdict s)
 
 -- the attempts of both sides, the first one's before the other's
-abbrev joined : (f g : Answers) → Answers
+abbrev joined : (f g : Outcomes) → Outcomes
 joined f g p attempt = option_or (f p attempt) (g p attempt)
 
-joined_first : (f g : Answers) → Extends f (joined f g)
+joined_first : (f g : Outcomes) → Extends f (joined f g)
 joined_first f g p attempt one h = ap (λ (x : Option Said). option_or x (g p attempt)) h
 
-joined_second : (f g : Answers) → AnswersAgree f g → Extends g (joined f g)
+joined_second : (f g : Outcomes) → AnswersAgree f g → Extends g (joined f g)
 joined_second f g agree p attempt other h = by (f p attempt) refl
   where
     by : (x : Option Said) → f p attempt ≡ x → option_or x (g p attempt) ≡ Some other
@@ -124,7 +124,7 @@ joined_second f g agree p attempt other h = by (f p attempt) refl
     by (Some one) e = ap Some (agree p attempt one other e h)
 
 -- attempts that agree decide a study alike: both as all of them together
-pub alone_alike : (study : Study) (f g : Answers) → AnswersAgree f g → (rows last others : List Row) (ending other : Ending) →
+pub alone_alike : (study : Study) (f g : Outcomes) → AnswersAgree f g → (rows last others : List Row) (ending other : Ending) →
     Alone study f rows last (Ended ending) → Alone study g rows others (Ended other) → (others ≡ last) × (other ≡ ending)
 alone_alike study f g agree rows last others ending other s t =
     let k = alone_once study (joined f g) rows last others (Ended ending) (Ended other) (alone_stays study f (joined f g) (joined_first f g) rows last ending s)
@@ -148,7 +148,7 @@ said_other entries e p attempt h =
     or-none (said entries p attempt)
 
 -- a child's answers, of which some were given
-pub said_alone : (child : Child) (entries : List Entry) → AreAnswersOf child entries → Extends (said entries) (answers_of child)
+pub said_alone : (child : Child) (entries : List Entry) → AreAnswersOf child entries → Extends (said entries) (outcomes_of child)
 said_alone child entries are p attempt one h = ap Some (sym (are p attempt one h))
 
 -- The laws
@@ -173,4 +173,4 @@ decided_alike study entries others rows other_rows ending other agree s t = alon
 
 pub decided_as_alone : (study : Study) (child : Child) (entries : List Entry) (rows : List Row) (ending : Ending) → AreAnswersOf child entries →
     Seq study entries rows (Ended ending) → Solo study child [] rows ending
-decided_as_alone study child entries rows ending are s = alone_stays study (said entries) (answers_of child) (said_alone child entries are) [] rows ending s
+decided_as_alone study child entries rows ending are s = alone_stays study (said entries) (outcomes_of child) (said_alone child entries are) [] rows ending s

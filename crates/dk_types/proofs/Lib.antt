@@ -6,3 +6,4 @@ pub mod CardEntries
 pub mod Once
 pub mod Alone
 pub mod Growth
+pub mod RuleAnswers

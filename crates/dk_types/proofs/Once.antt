@@ -16,52 +16,52 @@ use Rattle.dk_types.specs.Points.{point, size}
 use Rattle.dk_types.specs.Planned as planned
 use Rattle.dk_types.specs.Planned.{next, At, Over}
 use Rattle.dk_types.specs.Answers.{Answer, Value, Dead, Next, retries, given_up, by_attempt, answer_from}
-use Rattle.dk_types.specs.Solo.{Alone, finished, aborted, waits, goes_on, Answers, answers_of, Child, Verdict, Ended, Open, with_row}
+use Rattle.dk_types.specs.Solo.{Alone, finished, aborted, waits, goes_on, Outcomes, outcomes_of, Child, Verdict, Ended, Open, with_row}
 use Rattle.dk_types.specs.Laws.{ComesOnce, EndsOnce, answer_in}
 use Rattle.dk_types.specs.EntryLaws.{is_answered}
 
 -- what follows where a study comes from these rows to those others and that verdict: by what the next point's attempts
 -- come to
-abbrev pub TurnsBy : (study : Study) (answers : Answers) (rows : List Row) → List Decimal → List Row → Verdict → Answer → Type 0
-TurnsBy study answers rows p others other (Value v) = Alone study answers (with_row rows p v) others other
-TurnsBy study answers rows p others other (Dead attempts) = (others ≡ rows) × (other ≡ Ended (Aborted (length rows + 1) attempts))
-TurnsBy study answers rows p others other (Next attempt) = (others ≡ rows) × (other ≡ Open p attempt)
+abbrev pub TurnsBy : (study : Study) (outcomes : Outcomes) (rows : List Row) → List Decimal → List Row → Verdict → Answer → Type 0
+TurnsBy study outcomes rows p others other (Value v) = Alone study outcomes (with_row rows p v) others other
+TurnsBy study outcomes rows p others other (Dead attempts) = (others ≡ rows) × (other ≡ Ended (Aborted (length rows + 1) attempts))
+TurnsBy study outcomes rows p others other (Next attempt) = (others ≡ rows) × (other ≡ Open p attempt)
 
 -- and by what comes next
-abbrev pub Turns : (study : Study) (answers : Answers) (rows : List Row) → List Row → Verdict → planned.Next → Type 0
-Turns study answers rows others other (At p) = TurnsBy study answers rows p others other (answer_in study answers p)
-Turns study answers rows others other (Over why) = (others ≡ rows) × (other ≡ Ended (Finished why))
+abbrev pub Turns : (study : Study) (outcomes : Outcomes) (rows : List Row) → List Row → Verdict → planned.Next → Type 0
+Turns study outcomes rows others other (At p) = TurnsBy study outcomes rows p others other (answer_in study outcomes p)
+Turns study outcomes rows others other (Over why) = (others ≡ rows) × (other ≡ Ended (Finished why))
 
 -- and it does follow
-turns : (study : Study) (answers : Answers) (rows others : List Row) (other : Verdict) → Alone study answers rows others other → Turns study answers rows others other (next study rows)
-turns study answers _ _ _ (finished rows why e) = subst (Turns study answers rows rows (Ended (Finished why))) (sym e) (refl, refl)
-turns study answers _ _ _ (aborted rows p attempts e a) =
+turns : (study : Study) (outcomes : Outcomes) (rows others : List Row) (other : Verdict) → Alone study outcomes rows others other → Turns study outcomes rows others other (next study rows)
+turns study outcomes _ _ _ (finished rows why e) = subst (Turns study outcomes rows rows (Ended (Finished why))) (sym e) (refl, refl)
+turns study outcomes _ _ _ (aborted rows p attempts e a) =
     let end = Ended (Aborted (length rows + 1) attempts) in
-    subst (Turns study answers rows rows end) (sym e) (subst (TurnsBy study answers rows p rows end) (sym a) (refl, refl))
-turns study answers _ _ _ (waits rows p attempt e a) =
-    subst (Turns study answers rows rows (Open p attempt)) (sym e) (subst (TurnsBy study answers rows p rows (Open p attempt)) (sym a) (refl, refl))
-turns study answers _ _ _ (goes_on rows p v last verdict e a s) =
-    subst (Turns study answers rows last verdict) (sym e) (subst (TurnsBy study answers rows p last verdict) (sym a) s)
+    subst (Turns study outcomes rows rows end) (sym e) (subst (TurnsBy study outcomes rows p rows end) (sym a) (refl, refl))
+turns study outcomes _ _ _ (waits rows p attempt e a) =
+    subst (Turns study outcomes rows rows (Open p attempt)) (sym e) (subst (TurnsBy study outcomes rows p rows (Open p attempt)) (sym a) (refl, refl))
+turns study outcomes _ _ _ (goes_on rows p v last verdict e a s) =
+    subst (Turns study outcomes rows last verdict) (sym e) (subst (TurnsBy study outcomes rows p last verdict) (sym a) s)
 
 -- where no point is left
-pub turns_over : (study : Study) (answers : Answers) (rows others : List Row) (other : Verdict) (why : Why) → next study rows ≡ Over why →
-    Alone study answers rows others other → (others ≡ rows) × (other ≡ Ended (Finished why))
-turns_over study answers rows others other why e s = subst (Turns study answers rows others other) e (turns study answers rows others other s)
+pub turns_over : (study : Study) (outcomes : Outcomes) (rows others : List Row) (other : Verdict) (why : Why) → next study rows ≡ Over why →
+    Alone study outcomes rows others other → (others ≡ rows) × (other ≡ Ended (Finished why))
+turns_over study outcomes rows others other why e s = subst (Turns study outcomes rows others other) e (turns study outcomes rows others other s)
 
 -- where one is left, and its attempts come to this
-pub turns_by : (study : Study) (answers : Answers) (rows others : List Row) (other : Verdict) (p : List Decimal) (a : Answer) → next study rows ≡ At p → answer_in study answers p ≡ a →
-    Alone study answers rows others other → TurnsBy study answers rows p others other a
-turns_by study answers rows others other p a e h s =
-    subst (TurnsBy study answers rows p others other) h (subst (Turns study answers rows others other) e (turns study answers rows others other s))
+pub turns_by : (study : Study) (outcomes : Outcomes) (rows others : List Row) (other : Verdict) (p : List Decimal) (a : Answer) → next study rows ≡ At p → answer_in study outcomes p ≡ a →
+    Alone study outcomes rows others other → TurnsBy study outcomes rows p others other a
+turns_by study outcomes rows others other p a e h s =
+    subst (TurnsBy study outcomes rows p others other) h (subst (Turns study outcomes rows others other) e (turns study outcomes rows others other s))
 
 -- from any rows on a study comes to one thing only
-pub alone_once : (study : Study) (answers : Answers) (rows last others : List Row) (verdict other : Verdict) →
-    Alone study answers rows last verdict → Alone study answers rows others other → (others ≡ last) × (other ≡ verdict)
-alone_once study answers _ _ others _ other (finished rows why e) t = turns_over study answers rows others other why e t
-alone_once study answers _ _ others _ other (aborted rows p attempts e a) t = turns_by study answers rows others other p (Dead attempts) e a t
-alone_once study answers _ _ others _ other (waits rows p attempt e a) t = turns_by study answers rows others other p (Next attempt) e a t
-alone_once study answers _ _ others _ other (goes_on rows p v last verdict e a s) t =
-    alone_once study answers (with_row rows p v) last others verdict other s (turns_by study answers rows others other p (Value v) e a t)
+pub alone_once : (study : Study) (outcomes : Outcomes) (rows last others : List Row) (verdict other : Verdict) →
+    Alone study outcomes rows last verdict → Alone study outcomes rows others other → (others ≡ last) × (other ≡ verdict)
+alone_once study outcomes _ _ others _ other (finished rows why e) t = turns_over study outcomes rows others other why e t
+alone_once study outcomes _ _ others _ other (aborted rows p attempts e a) t = turns_by study outcomes rows others other p (Dead attempts) e a t
+alone_once study outcomes _ _ others _ other (waits rows p attempt e a) t = turns_by study outcomes rows others other p (Next attempt) e a t
+alone_once study outcomes _ _ others _ other (goes_on rows p v last verdict e a s) t =
+    alone_once study outcomes (with_row rows p v) last others verdict other s (turns_by study outcomes rows others other p (Value v) e a t)
 
 pub next_over : (study : Study) (rows : List Row) → nat_lt (length rows) (size study) ≡ false → next study rows ≡ Over Complete
 next_over study rows e = rw e refl
@@ -73,35 +73,35 @@ pub length_more : (rows : List Row) (p v : List Decimal) → length (with_row ro
 length_more rows p v = length-append rows (record { point = p; values = v } ∷ [])
 
 -- what a study comes to from these rows on
-record SomeEnd (study : Study) (answers : Answers) (rows : List Row) : Type 0 where
+record SomeEnd (study : Study) (outcomes : Outcomes) (rows : List Row) : Type 0 where
   last : List Row
   verdict : Verdict
-  comes : Alone study answers rows last verdict
+  comes : Alone study outcomes rows last verdict
 
 is_late : (m n k : ℕ) → n ≤ m + zero → nat_lt m n ≡ false
 is_late m n k h = grind (arith, common_steps)
 
 -- so many points are left at most
-some_end : (turns : ℕ) (study : Study) (answers : Answers) (rows : List Row) → size study ≤ length rows + turns → SomeEnd study answers rows
-some_end zero study answers rows h =
+some_end : (turns : ℕ) (study : Study) (outcomes : Outcomes) (rows : List Row) → size study ≤ length rows + turns → SomeEnd study outcomes rows
+some_end zero study outcomes rows h =
     record { last = rows; verdict = Ended (Finished Complete); comes = finished rows Complete (next_over study rows (is_late (length rows) (size study) 0 h)) }
-some_end (suc turns) study answers rows h =
+some_end (suc turns) study outcomes rows h =
     at (nat_lt (length rows) (size study)) refl
-    (λ v. some_end turns study answers (with_row rows (point study (length rows)) v) (let l = length_more rows (point study (length rows)) v in omega arith))
+    (λ v. some_end turns study outcomes (with_row rows (point study (length rows)) v) (let l = length_more rows (point study (length rows)) v in omega arith))
   where
-    answered : (p : List Decimal) (a : Answer) → next study rows ≡ At p → answer_in study answers p ≡ a → ((v : List Decimal) → SomeEnd study answers (with_row rows p v)) → SomeEnd study answers rows
-    answered p (Value v) e a rest = let r : SomeEnd study answers (with_row rows p v) = rest v in record { last = r.last; verdict = r.verdict; comes = goes_on rows p v r.last r.verdict e a r.comes }
+    answered : (p : List Decimal) (a : Answer) → next study rows ≡ At p → answer_in study outcomes p ≡ a → ((v : List Decimal) → SomeEnd study outcomes (with_row rows p v)) → SomeEnd study outcomes rows
+    answered p (Value v) e a rest = let r : SomeEnd study outcomes (with_row rows p v) = rest v in record { last = r.last; verdict = r.verdict; comes = goes_on rows p v r.last r.verdict e a r.comes }
     answered p (Dead attempts) e a rest = record { last = rows; verdict = Ended (Aborted (length rows + 1) attempts); comes = aborted rows p attempts e a }
     answered p (Next attempt) e a rest = record { last = rows; verdict = Open p attempt; comes = waits rows p attempt e a }
 
-    at : (b : Bool) → nat_lt (length rows) (size study) ≡ b → ((v : List Decimal) → SomeEnd study answers (with_row rows (point study (length rows)) v)) → SomeEnd study answers rows
+    at : (b : Bool) → nat_lt (length rows) (size study) ≡ b → ((v : List Decimal) → SomeEnd study outcomes (with_row rows (point study (length rows)) v)) → SomeEnd study outcomes rows
     at false e rest = record { last = rows; verdict = Ended (Finished Complete); comes = finished rows Complete (next_over study rows e) }
-    at true e rest = answered (point study (length rows)) (answer_in study answers (point study (length rows))) (next_at study rows e) refl rest
+    at true e rest = answered (point study (length rows)) (answer_in study outcomes (point study (length rows))) (next_at study rows e) refl rest
 
-pub each_comes_once : (study : Study) (answers : Answers) → ComesOnce study answers
-each_comes_once study answers =
-    let e : SomeEnd study answers [] = some_end (size study) study answers [] (omega arith) in
-    record { rows = e.last; verdict = e.verdict; comes = e.comes; only = λ others other t. alone_once study answers [] e.last others e.verdict other e.comes t }
+pub each_comes_once : (study : Study) (outcomes : Outcomes) → ComesOnce study outcomes
+each_comes_once study outcomes =
+    let e : SomeEnd study outcomes [] = some_end (size study) study outcomes [] (omega arith) in
+    record { rows = e.last; verdict = e.verdict; comes = e.comes; only = λ others other t. alone_once study outcomes [] e.last others e.verdict other e.comes t }
 
 -- where each attempt gives something, none is to be made next
 pub never_next : (rule : FailRule) (says : ℕ → Said) (left attempt : ℕ) → is_answered (answer_from rule (λ k. Some (says k)) left attempt) ≡ true
@@ -128,7 +128,7 @@ record IsEnded (verdict : Verdict) : Type 0 where
   is : verdict ≡ Ended ending
 
 -- where a child answers each attempt, a study doesn't wait
-ends_alone : (study : Study) (child : Child) (rows last : List Row) (verdict : Verdict) → Alone study (answers_of child) rows last verdict → IsEnded verdict
+ends_alone : (study : Study) (child : Child) (rows last : List Row) (verdict : Verdict) → Alone study (outcomes_of child) rows last verdict → IsEnded verdict
 ends_alone study child _ _ _ (finished rows why e) = record { ending = Finished why; is = refl }
 ends_alone study child _ _ _ (aborted rows p attempts e a) = record { ending = Aborted (length rows + 1) attempts; is = refl }
 ends_alone study child _ _ _ (waits rows p attempt e a) =
@@ -141,11 +141,11 @@ same_ending one other h = cc
 
 pub each_ends_once : (study : Study) (child : Child) → EndsOnce study child
 each_ends_once study child =
-    let c : ComesOnce study (answers_of child) = each_comes_once study (answers_of child) in
+    let c : ComesOnce study (outcomes_of child) = each_comes_once study (outcomes_of child) in
     let e : IsEnded c.verdict = ends_alone study child [] c.rows c.verdict c.comes in
     record {
       rows = c.rows;
       ending = e.ending;
-      ends = subst (Alone study (answers_of child) [] c.rows) e.is c.comes;
+      ends = subst (Alone study (outcomes_of child) [] c.rows) e.is c.comes;
       only = λ others other t. let k = c.only others (Ended other) t in (k.0, same_ending other e.ending (k.1 ∙ e.is));
     }

@@ -1,23 +1,24 @@
--- What the evaluation of a study one point at a time gives, in the subject's words.
-use Rattle.std.specs.Prelude.{◌≡◌, ℕ, ◌+◌, ◌<◌, List, [], length, slice_get, Some}
+-- What the evaluation of a study one point at a time gives, in the subject's words: of a study whose points are known
+-- from the beginning.
+use Rattle.std.specs.Prelude.{◌≡◌, ℕ, ◌+◌, ◌<◌, List, [], length, slice_get, Some, IsTrue}
 use Rattle.dk_num.specs.Decimal.{Decimal}
 use Rattle.dk_types.specs.declared.study.Study.{Study}
 use Rattle.dk_types.specs.declared.study.Ending.{Ending}
 use Rattle.dk_types.specs.declared.study.Ending.TheVariants.{Finished, Aborted}
 use Rattle.dk_types.specs.declared.rows.Row.{Row}
-use Rattle.dk_types.specs.Points.{point, size}
+use Rattle.dk_types.specs.Points.{has_points, point, size}
 use Rattle.dk_types.specs.Answers.{Answer, answer_by, Value, Dead, Next}
-use Rattle.dk_types.specs.Solo.{Alone, Answers, Verdict, Ended, Open, Solo, Child}
+use Rattle.dk_types.specs.Solo.{Alone, Outcomes, Verdict, Ended, Open, Solo, Child}
 
 -- rows and a verdict, of which there are no others
-pub record ComesOnce (study : Study) (answers : Answers) : Type 0 where
+pub record ComesOnce (study : Study) (outcomes : Outcomes) : Type 0 where
   pub rows : List Row
   pub verdict : Verdict
-  pub comes : Alone study answers [] rows verdict
-  pub only : (others : List Row) (other : Verdict) → Alone study answers [] others other → (others ≡ rows) × (other ≡ verdict)
+  pub comes : Alone study outcomes [] rows verdict
+  pub only : (others : List Row) (other : Verdict) → Alone study outcomes [] others other → (others ≡ rows) × (other ≡ verdict)
 
 abbrev pub EachStudyComesOnce : Type 0
-EachStudyComesOnce = (study : Study) (answers : Answers) → ComesOnce study answers
+EachStudyComesOnce = (study : Study) (outcomes : Outcomes) → IsTrue (has_points study.method) → ComesOnce study outcomes
 
 -- rows and an ending, of which there are no others
 pub record EndsOnce (study : Study) (child : Child) : Type 0 where
@@ -27,23 +28,24 @@ pub record EndsOnce (study : Study) (child : Child) : Type 0 where
   pub only : (others : List Row) (other : Ending) → Solo study child [] others other → (others ≡ rows) × (other ≡ ending)
 
 abbrev pub EachStudyEndsOnce : Type 0
-EachStudyEndsOnce = (study : Study) (child : Child) → EndsOnce study child
+EachStudyEndsOnce = (study : Study) (child : Child) → IsTrue (has_points study.method) → EndsOnce study child
 
 -- what the attempts of a point come to in a study
-abbrev pub answer_in : Study → Answers → List Decimal → Answer
-answer_in study answers p = answer_by study.interface.rule (answers p)
+abbrev pub answer_in : Study → Outcomes → List Decimal → Answer
+answer_in study outcomes p = answer_by study.interface.rule (outcomes p)
 
 -- all points have a row; or the point behind the rows has no values, or waits for an attempt
-abbrev pub StandsAt : Study → Answers → ℕ → Verdict → Type 0
-StandsAt study answers count (Ended (Finished why)) = count ≡ size study
-StandsAt study answers count (Ended (Aborted evaluation attempts)) =
-    (count < size study) × (answer_in study answers (point study count) ≡ Dead attempts) × (evaluation ≡ count + 1)
-StandsAt study answers count (Open p attempt) = (count < size study) × (answer_in study answers (point study count) ≡ Next attempt) × (p ≡ point study count)
+abbrev pub StandsAt : Study → Outcomes → ℕ → Verdict → Type 0
+StandsAt study outcomes count (Ended (Finished why)) = count ≡ size study
+StandsAt study outcomes count (Ended (Aborted evaluation attempts)) =
+    (count < size study) × (answer_in study outcomes (point study count) ≡ Dead attempts) × (evaluation ≡ count + 1)
+StandsAt study outcomes count (Open p attempt) = (count < size study) × (answer_in study outcomes (point study count) ≡ Next attempt) × (p ≡ point study count)
 
-pub record AnswersPoints (study : Study) (answers : Answers) (rows : List Row) (verdict : Verdict) : Type 0 where
+pub record AnswersPoints (study : Study) (outcomes : Outcomes) (rows : List Row) (verdict : Verdict) : Type 0 where
   pub points : (i : ℕ) (row : Row) → slice_get rows i ≡ Some row → row.point ≡ point study i
-  pub values : (i : ℕ) (row : Row) → slice_get rows i ≡ Some row → answer_in study answers row.point ≡ Value row.values
-  pub stands : StandsAt study answers (length rows) verdict
+  pub values : (i : ℕ) (row : Row) → slice_get rows i ≡ Some row → answer_in study outcomes row.point ≡ Value row.values
+  pub stands : StandsAt study outcomes (length rows) verdict
 
 abbrev pub RowsAreThePoints : Type 0
-RowsAreThePoints = (study : Study) (answers : Answers) (rows : List Row) (verdict : Verdict) → Alone study answers [] rows verdict → AnswersPoints study answers rows verdict
+RowsAreThePoints = (study : Study) (outcomes : Outcomes) (rows : List Row) (verdict : Verdict) → IsTrue (has_points study.method) →
+    Alone study outcomes [] rows verdict → AnswersPoints study outcomes rows verdict

@@ -5,6 +5,7 @@ pub mod Sound
 pub mod Planned
 pub mod Entries
 pub mod Answers
+pub mod Rules
 pub mod Cards
 pub mod Solo
 pub mod Laws

@@ -1,4 +1,4 @@
--- Which points come next, and in which batch.
+-- Which points come next in a study whose points are known from the beginning, and in which batch.
 use Rattle.std.specs.Prelude.{◌≡◌, ℕ, ◌+◌, ◌-◌, ◌≤◌, List, ◌++◌, length, map, nat_lt, if◌then◌else◌}
 use Rattle.std.specs.List.{range_with_len}
 use Rattle.dk_num.specs.Decimal.{Decimal}
@@ -35,7 +35,7 @@ abbrev pub plan : Study → List Row → Plan
 plan study rows = plan_by (length rows) (rest study rows) (next study rows)
 
 -- the rows are those of before, and behind them one for each point of a batch, in order
-pub record Answers (before : List Row) (batch : List (List Decimal)) (rows : List Row) : Type 0 where
+pub record AnswersBatch (before : List Row) (batch : List (List Decimal)) (rows : List Row) : Type 0 where
   pub behind : List Row
   pub split : rows ≡ before ++ behind
   pub points : map (λ row. row.point) behind ≡ batch
@@ -44,7 +44,7 @@ pub record Answers (before : List Row) (batch : List (List Decimal)) (rows : Lis
 pub record AnswersLast (was_given : List Row → Type 0) (batch : List (List Decimal)) (rows : List Row) : Type 0 where
   pub before : List Row
   pub given : was_given before
-  pub answers : Answers before batch rows
+  pub answers : AnswersBatch before batch rows
 
 -- a row's number, counted from 1, is in the batch behind so many rows
 abbrev pub IsInBatch : (before : ℕ) → List (List Decimal) → (row : ℕ) → Type 0

@@ -1,5 +1,8 @@
--- The points of vector, list, centered and multidimensional studies, in units and as decimals.
-use Rattle.std.specs.Prelude.{ℕ, ◌+◌, ◌-◌, ◌*◌, ◌/◌, ◌%◌, ◌==◌, List, [], ◌∷◌, length, map, zip, take, drop, replicate, unwrap_or, if◌then◌else◌, nat_lt, ℤ, pos, neg_ℤ, ◌+ℤ◌, ◌-ℤ◌, ◌*ℤ◌}
+-- The points of vector, list, centered and multidimensional studies, in units and as decimals (Dakota Reference Manual,
+-- `method`: `vector_parameter_study`, `list_parameter_study`, `centered_parameter_study`, `multidim_parameter_study`).
+-- A compass search has no points but those that its values lead to: what is said here is meant of the four others, and
+-- each statement has that as its premise (`has_points`).
+use Rattle.std.specs.Prelude.{ℕ, Bool, true, false, ◌+◌, ◌-◌, ◌*◌, ◌/◌, ◌%◌, ◌==◌, List, [], ◌∷◌, length, map, zip, take, drop, replicate, unwrap_or, if◌then◌else◌, nat_lt, ℤ, pos, neg_ℤ, ◌+ℤ◌, ◌-ℤ◌, ◌*ℤ◌}
 use Rattle.dk_num.specs.Decimal.{Decimal}
 use Rattle.dk_num.specs.Units.{in_units}
 use Rattle.dk_num.specs.Rounding.{rounded_quotient}
@@ -9,6 +12,11 @@ use Rattle.dk_types.specs.declared.study.Method.{Method}
 use Rattle.dk_types.specs.declared.study.Method.TheVariants as method
 use Rattle.dk_types.specs.declared.study.Way.TheVariants.{Step, Final}
 use Rattle.dk_types.specs.Limits.{limit}
+
+-- one of the four methods whose points are known from the beginning
+abbrev pub has_points : Method → Bool
+has_points (method.Compass delta threshold iterations evaluations) = false
+has_points _ = true
 
 -- how many points such a study has: as many as the rows that it may have at most
 abbrev pub size : Study → ℕ
@@ -54,7 +62,7 @@ abbrev pub in_grid : (i : ℕ) → (partitions : List ℕ) → (lower upper : Li
 in_grid i partitions lower upper =
     map (λ c. on_the_way c.0.0 c.0.1 c.1.0 c.1.1) (zip (zip (choices partitions i) partitions) (zip lower upper))
 
--- point i of a method, counted from 0
+-- point i of such a method, counted from 0
 abbrev pub units_by : Variables → Method → (i : ℕ) → List ℤ
 units_by variables (method.Vector steps (Step step)) i = after_steps i variables.initial step
 units_by variables (method.Vector steps (Final final)) i = towards i steps variables.initial final
@@ -63,10 +71,10 @@ units_by variables (method.Centered step counts) i = around i variables.initial 
 units_by variables (method.Multidim partitions) i = in_grid i partitions (unwrap_or variables.lower []) (unwrap_or variables.upper [])
 units_by variables (method.Compass delta threshold iterations evaluations) i = []
 
--- point i, counted from 0, in units
+-- point i of such a study, counted from 0, in units
 abbrev pub units_at : Study → (i : ℕ) → List ℤ
 units_at study i = units_by study.variables study.method i
 
--- point i, counted from 0
+-- and as decimals
 abbrev pub point : Study → (i : ℕ) → List Decimal
 point study i = map (in_units study.unit.exponent) (units_at study i)

@@ -29,12 +29,12 @@ rosenbrock_child (x1 ∷ (x2 ∷ [])) attempt = as_said (ros x1 x2)
 rosenbrock_child _ attempt = Failed
 
 -- what each attempt of a point gave, as far as it was made
-abbrev pub Answers : Type 0
-Answers = List Decimal → (attempt : ℕ) → Option Said
+abbrev pub Outcomes : Type 0
+Outcomes = List Decimal → (attempt : ℕ) → Option Said
 
 -- a child answers each attempt
-abbrev pub answers_of : Child → Answers
-answers_of child p attempt = Some (child p attempt)
+abbrev pub outcomes_of : Child → Outcomes
+outcomes_of child p attempt = Some (child p attempt)
 
 -- the study ends, or a point waits for this attempt
 pub data Verdict : Type 0 where
@@ -47,14 +47,14 @@ with_row rows point values = rows ++ record { point = point; values = values } �
 
 -- From these rows on, the study comes to those rows and this verdict, one point after another: each point gets what
 -- its attempts come to under the study's rule.
-pub data Alone (study : Study) (answers : Answers) : List Row → List Row → Verdict → Type 0 where
-  finished : (rows : List Row) (why : Why) → next study rows ≡ Over why → Alone study answers rows rows (Ended (Finished why))
-  aborted : (rows : List Row) (p : List Decimal) (attempts : ℕ) → next study rows ≡ At p → answer_by study.interface.rule (answers p) ≡ Dead attempts →
-      Alone study answers rows rows (Ended (Aborted (length rows + 1) attempts))
-  waits : (rows : List Row) (p : List Decimal) (attempt : ℕ) → next study rows ≡ At p → answer_by study.interface.rule (answers p) ≡ Next attempt →
-      Alone study answers rows rows (Open p attempt)
-  goes_on : (rows : List Row) (p v : List Decimal) (last : List Row) (verdict : Verdict) → next study rows ≡ At p → answer_by study.interface.rule (answers p) ≡ Value v →
-      Alone study answers (with_row rows p v) last verdict → Alone study answers rows last verdict
+pub data Alone (study : Study) (outcomes : Outcomes) : List Row → List Row → Verdict → Type 0 where
+  finished : (rows : List Row) (why : Why) → next study rows ≡ Over why → Alone study outcomes rows rows (Ended (Finished why))
+  aborted : (rows : List Row) (p : List Decimal) (attempts : ℕ) → next study rows ≡ At p → answer_by study.interface.rule (outcomes p) ≡ Dead attempts →
+      Alone study outcomes rows rows (Ended (Aborted (length rows + 1) attempts))
+  waits : (rows : List Row) (p : List Decimal) (attempt : ℕ) → next study rows ≡ At p → answer_by study.interface.rule (outcomes p) ≡ Next attempt →
+      Alone study outcomes rows rows (Open p attempt)
+  goes_on : (rows : List Row) (p v : List Decimal) (last : List Row) (verdict : Verdict) → next study rows ≡ At p → answer_by study.interface.rule (outcomes p) ≡ Value v →
+      Alone study outcomes (with_row rows p v) last verdict → Alone study outcomes rows last verdict
 
 -- what a study comes to over attempts that were made
 abbrev pub Seq : Study → List Entry → List Row → Verdict → Type 0
@@ -62,4 +62,4 @@ Seq study entries rows verdict = Alone study (said entries) [] rows verdict
 
 -- from these rows on, the study ends with those rows, so, where a child answers each attempt
 abbrev pub Solo : Study → Child → List Row → List Row → Ending → Type 0
-Solo study child rows last ending = Alone study (answers_of child) rows last (Ended ending)
+Solo study child rows last ending = Alone study (outcomes_of child) rows last (Ended ending)

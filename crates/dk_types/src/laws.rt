@@ -1,21 +1,31 @@
 //! Laws of the definitions. Each is the contract of a function that does nothing.
 ghost use Rattle.dk_types.specs.Laws.{EachStudyComesOnce, EachStudyEndsOnce, RowsAreThePoints};
+ghost use Rattle.dk_types.specs.Rules.{EachRuleAnswers};
 ghost use Rattle.dk_types.specs.EntryLaws.{OthersKeepTheirAnswer, AnsweredStays, NextIsTheNextAttempt, CardsSayTheSame, EachCardsHaveEntries, DecidedStays, RowsStay, DecidedAlike, DecidedAsAlone};
 
-/// For each study, and whatever the attempts gave, there is just one list of rows and one verdict.
+/// For each study whose points are known from the beginning, and whatever the attempts gave, there is just one list of
+/// rows and one verdict.
 pub fn each_study_comes_once()
     ensures { EachStudyComesOnce }
 {}
 
-/// For each study and child there is just one list of rows and one ending.
+/// For each such study and each child there is just one list of rows and one ending.
 pub fn each_study_ends_once()
     ensures { EachStudyEndsOnce }
 {}
 
-/// Row i has the study's point i and what the attempts of this point come to. A study that finished has a row for each
+/// Row i has such a study's point i and what the attempts of this point come to. A study that finished has a row for each
 /// of its points; one that was aborted, or waits for an attempt, has none from the first point on that has no values.
 pub fn rows_are_the_points()
     ensures { RowsAreThePoints }
+{}
+
+/// Under `abort` and `retry` a point is dead after so many attempts exactly where these failed and are all that the rule
+/// allows, one and its retries; under `recover` never. It has values exactly where an attempt that is allowed gave them
+/// and all before it failed, or, under `recover`, where the first attempt failed and they are the rule's own. An attempt
+/// is due exactly where it is allowed, wasn't made, and all before it failed.
+pub fn each_rule_answers()
+    ensures { EachRuleAnswers }
 {}
 
 /// An attempt of one point changes no other point's answer.
