@@ -9,7 +9,7 @@ use Rattle.dk_types.specs.declared.rows.Row.{Row}
 use Rattle.dk_types.specs.declared.planner.Plan.TheVariants.{Batch}
 use Rattle.dk_types.specs.Points.{point, size}
 use Rattle.dk_types.specs.Planned.{points_from, plan, IsInBatch}
-use Rattle.dk_method.specs.Plans.{Planned, IsPlanned}
+use Rattle.dk_method.specs.Plans.{PlanningState, IsPlanningState}
 
 -- where rows are left, the plan is a batch of them
 pub batch_planned : (study : Study) (rows : List Row) (before limit : ℕ) → before ≡ length rows → limit ≡ size study → before < limit → Batch (before + 1) (limit - before) ≡ plan study rows
@@ -18,7 +18,7 @@ batch_planned study rows before limit count most left =
     let l : length (points_from study (length rows) (size study - length rows)) ≡ size study - length rows = length-map-range_with_len (point study) (length rows) (size study - length rows) in
     rw (t, l, count, most) refl
 
-pub batch_within : (planned : Planned) (row : ℕ) → IsPlanned planned → IsInBatch planned.before (points_from planned.study planned.before planned.count) row → row - 1 < size planned.study
+pub batch_within : (planned : PlanningState) (row : ℕ) → IsPlanningState planned → IsInBatch planned.before (points_from planned.study planned.before planned.count) row → row - 1 < size planned.study
 batch_within planned row is within =
     let l : length (points_from planned.study planned.before planned.count) ≡ planned.count = length-map-range_with_len (point planned.study) planned.before planned.count in
     let w = is.within in
@@ -26,7 +26,7 @@ batch_within planned row is within =
     let b = within.1 in
     omega arith
 
-pub batch_point : (planned : Planned) (row : ℕ) → IsInBatch planned.before (points_from planned.study planned.before planned.count) row →
+pub batch_point : (planned : PlanningState) (row : ℕ) → IsInBatch planned.before (points_from planned.study planned.before planned.count) row →
     slice_get (points_from planned.study planned.before planned.count) (row - (planned.before + 1)) ≡ Some (point planned.study (row - 1))
 batch_point planned row within =
     let l : length (points_from planned.study planned.before planned.count) ≡ planned.count = length-map-range_with_len (point planned.study) planned.before planned.count in

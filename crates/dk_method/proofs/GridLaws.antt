@@ -15,10 +15,10 @@ product_from start (p ∷ partitions) =
     let first : grid_size (p ∷ partitions) ≡ (p + 1) * grid_size partitions = product_from (1 * (p + 1)) partitions ∙ ap (λ n. n * grid_size partitions) one in
     product_from (start * (p + 1)) partitions ∙ mul_assoc start (p + 1) (grid_size partitions) ∙ ap (λ n. start * n) (sym first)
 
-grid_more : (p : ℕ) (partitions : List ℕ) → grid_size (p ∷ partitions) ≡ (p + 1) * grid_size partitions
+pub grid_more : (p : ℕ) (partitions : List ℕ) → grid_size (p ∷ partitions) ≡ (p + 1) * grid_size partitions
 grid_more p partitions = let one : 1 * (p + 1) ≡ p + 1 = omega arith in product_from (1 * (p + 1)) partitions ∙ ap (λ n. n * grid_size partitions) one
 
-place_within : (partitions ks : List ℕ) → AreChoices partitions ks → place partitions ks < grid_size partitions
+pub place_within : (partitions ks : List ℕ) → AreChoices partitions ks → place partitions ks < grid_size partitions
 place_within [] [] are = omega arith
 place_within [] (k ∷ ks) are = absurd are
 place_within (p ∷ partitions) [] are = absurd are
@@ -29,7 +29,7 @@ place_within (p ∷ partitions) (k ∷ ks) are =
     let turned : (p + 1) * place partitions ks ≡ place partitions ks * (p + 1) = mul_comm (p + 1) (place partitions ks) in
     omega arith
 
-choices_there : (partitions ks : List ℕ) → AreChoices partitions ks → choices partitions (place partitions ks) ≡ ks
+pub choices_there : (partitions ks : List ℕ) → AreChoices partitions ks → choices partitions (place partitions ks) ≡ ks
 choices_there [] [] are = refl
 choices_there [] (k ∷ ks) are = absurd are
 choices_there (p ∷ partitions) [] are = absurd are

@@ -5,3 +5,4 @@ pub mod Moved
 pub mod Batches
 pub mod PointLaws
 pub mod GridLaws
+pub mod Spanned

@@ -1,5 +1,5 @@
 -- Each move of a centered study is made once, and each number of a point is small.
-use Rattle.std.proofs.Common.{◌≡◌, ◌≢◌, inl, inr, ℕ, zero, suc, ◌+◌, ◌-◌, ◌*◌, ◌/◌, ◌==◌, ◌<◌, ◌≤◌, Bool, true, false, List, [], ◌∷◌, length, drop, replicate, get_or, set, Option, Some, None, ap, sym, ◌∙◌, refl, arith, nat_lt, int_lt, if◌then◌else◌, ℤ, pos, neg_ℤ, unsigned_abs}
+use Rattle.std.proofs.Common.{◌≡◌, ◌≢◌, inl, inr, ℕ, zero, suc, ◌+◌, ◌-◌, ◌*◌, ◌/◌, ◌==◌, ◌<◌, ◌≤◌, Bool, true, false, List, [], ◌∷◌, length, take, drop, replicate, get_or, set, Option, Some, None, ap, sym, ◌∙◌, refl, arith, nat_lt, int_lt, if◌then◌else◌, ℤ, pos, neg_ℤ, unsigned_abs}
 use Rattle.std.specs.Prelude.{sum, unwrap_or}
 use Rattle.std.specs.List.{All}
 use Rattle.std.proofs.lemmas.Nat.{mod_below}
@@ -20,7 +20,7 @@ use Rattle.dk_types.specs.Points.{after_steps, towards, choices, in_grid, around
 use Rattle.dk_types.specs.Sound.{IsSound, IsNumber, IsBetween, IsBound, IsPoint, IsSoundMethod}
 use Rattle.dk_method.specs.declared.centered.Move.{Move}
 use Rattle.dk_method.specs.Moves.{IsMove}
-use Rattle.dk_method.specs.Laws.{IsSmall, IsMovedAlone, MovesOne, HasEachMove}
+use Rattle.dk_method.specs.Laws.{IsSmall, IsMovedAlone, MovesOne, HasEachMove, moves_before, place_of_move}
 use Rattle.dk_method.proofs.Quantities.{number_small, moved_small, way_small}
 use Rattle.dk_method.proofs.Formulas.{steps_long, steps_at, way, way_long, way_at, towards_none, towards_some, grid_long, grid_at}
 use Rattle.dk_method.proofs.Moved.{found, skipped, sum_first, no_move, zeros_long, around_centre, around_moved}
@@ -48,6 +48,7 @@ offset_once count k l h i e = elim (cases_lt k count) [
 -- the move in which the first variable goes so many steps
 record FirstMoved (count : ℕ) (steps : ℤ) : Type 0 where
   number : ℕ
+  at : number ≡ moves_before count steps
   within : number < 2 * count
   is : offset count number ≡ steps
 
@@ -59,14 +60,14 @@ first_once count steps some few = at (int_lt steps (pos 0)) refl
         let size : ℕ = unsigned_abs steps in
         let n : count - (count - size) ≡ size = omega arith in
         let s : neg_ℤ (pos size) ≡ steps = omega (arith, ints) in
-        record { number = count - size; within = omega arith; is = back count (count - size) (omega arith) ∙ ap (λ m. neg_ℤ (pos m)) n ∙ s }
+        record { number = count - size; at = rw e refl; within = omega arith; is = back count (count - size) (omega arith) ∙ ap (λ m. neg_ℤ (pos m)) n ∙ s }
     at false e =
         let size : ℕ = unsigned_abs steps in
         let n : count + size - 1 - count + 1 ≡ size = omega arith in
         let s : pos size ≡ steps = omega (arith, ints) in
-        record { number = count + size - 1; within = omega arith; is = on count (count + size - 1) (omega arith) ∙ ap pos n ∙ s }
+        record { number = count + size - 1; at = rw e refl; within = omega arith; is = on count (count + size - 1) (omega arith) ∙ ap pos n ∙ s }
 
-one_moved : (counts : List ℕ) (k : ℕ) → k < 2 * sum counts → MovesOne counts k
+pub one_moved : (counts : List ℕ) (k : ℕ) → k < 2 * sum counts → MovesOne counts k
 one_moved [] k h = absurd (omega arith)
 one_moved (count ∷ counts) k h = elim (cases_lt k (2 * count)) [
   | inl l ↦ (let r = offset_reach count k l in record {
@@ -86,6 +87,7 @@ one_moved (count ∷ counts) k h = elim (cases_lt k (2 * count)) [
 -- some move with this variable alone moved by so many steps
 record Made (counts : List ℕ) (variable : ℕ) (steps : ℤ) : Type 0 where
   number : ℕ
+  at : number ≡ place_of_move counts variable steps
   within : number < 2 * sum counts
   alone : IsMovedAlone counts number variable steps
 
@@ -97,6 +99,7 @@ made (count ∷ counts) zero steps inside some few =
     let w = f.within in
     record {
       number = f.number;
+      at = (let a = f.at in omega arith);
       within = omega arith;
       alone = found count f.number counts w ∙ ap (λ o. o ∷ replicate (length counts) (pos 0)) f.is;
     }
@@ -107,6 +110,7 @@ made (count ∷ counts) (suc variable) steps inside some few =
     let n : m.number + 2 * count - 2 * count ≡ m.number = omega arith in
     record {
       number = m.number + 2 * count;
+      at = (let a = m.at in let t = sum_first count (take variable counts) in omega arith);
       within = omega arith;
       alone = skipped count (m.number + 2 * count) counts (omega arith) ∙ ap (λ k. pos 0 ∷ offsets counts k) n ∙ ap (λ os. pos 0 ∷ os) m.alone;
     }
@@ -139,6 +143,7 @@ each_move_is_made_once counts = record {
       let m = made counts variable steps r.inside r.some r.few in
       record {
         number = m.number;
+        at = m.at;
         within = m.within;
         alone = m.alone;
         only = λ k h e. offsets_once counts k m.number h m.within (e ∙ sym m.alone);
@@ -177,7 +182,7 @@ towards_is_small : (e : ℤ) (n i parts : ℕ) (from to : List ℤ) → IsPoint 
 towards_is_small e n i zero from to start end part few = all_as _ _ (sym (towards_none i from to 0 refl)) (numbers_small e from start.each)
 towards_is_small e n i (suc m) from to start end part few = all_as _ _ (sym (towards_some i (suc m) from to (λ h. omega arith))) (way_is_small e n i (suc m) from to start end part few)
 
-choice_few : (partitions : List ℕ) (i place : ℕ) → get_or (choices partitions i) place 0 ≤ get_or partitions place 0
+pub choice_few : (partitions : List ℕ) (i place : ℕ) → get_or (choices partitions i) place 0 ≤ get_or partitions place 0
 choice_few [] i place = omega arith
 choice_few (p ∷ partitions) i zero = let l = mod_below i (p + 1) (omega arith) in omega arith
 choice_few (p ∷ partitions) i (suc place) = choice_few partitions (i / (p + 1)) place
@@ -199,7 +204,7 @@ bound_is e n None ks there is = absurd (cc)
 bound_is e n (Some xs) ks there is = is
 
 -- a move of one variable, as the point's writer has it
-move_is : (counts : List ℕ) (k : ℕ) (move : Move) → move.variable < length counts → unsigned_abs move.offset ≤ 10000 → IsMovedAlone counts k move.variable move.offset → IsMove counts k move
+pub move_is : (counts : List ℕ) (k : ℕ) (move : Move) → move.variable < length counts → unsigned_abs move.offset ≤ 10000 → IsMovedAlone counts k move.variable move.offset → IsMove counts k move
 move_is counts k move inside few alone = record {
   variable = inside;
   few = few;

@@ -1,7 +1,7 @@
 -- How large the numbers of units are.
-use Rattle.std.proofs.Common.{◌≡◌, ℕ, ◌+◌, ◌*◌, ◌/◌, ◌^◌, ◌<◌, ◌≤◌, ◌∙◌, true, false, ap, arith, ℤ, pos, neg_ℤ, ◌+ℤ◌, ◌-ℤ◌, ◌*ℤ◌, unsigned_abs, to_z, of_z, Bool, List, length, get_or, refl, int_lt, if◌then◌else◌}
+use Rattle.std.proofs.Common.{◌≡◌, ℕ, ◌+◌, ◌*◌, ◌/◌, ◌^◌, ◌<◌, ◌≤◌, ◌∙◌, true, false, ap, sym, subst, arith, ℤ, pos, neg_ℤ, ◌+ℤ◌, ◌-ℤ◌, ◌*ℤ◌, unsigned_abs, to_z, of_z, Bool, List, [], ◌∷◌, length, get_or, refl, int_lt, if◌then◌else◌}
 use Rattle.std.proofs.lemmas.Int.{ints, unsigned_abs-mul, to_z-of_z, fits_signed_from_abs}
-use Rattle.std.proofs.lemmas.List.Elements.{All-get_or}
+use Rattle.std.proofs.lemmas.List.Elements.{All-get_or, All-cons, All-nil}
 use Rattle.std.specs.List.{All}
 use Rattle.std.proofs.Math.Nat.{mul-le-mul_right, div-le_self}
 use Rattle.dk_num.specs.Rounding.{rounded_quotient, signed_as}
@@ -98,3 +98,16 @@ part_way_is i parts a b p q r part few few_a few_b p_is q_is is =
       sum = sum;
       small = small;
     }
+
+-- a number that was made of another one and is read
+pub number_made : (e n r : ℤ) → r ≡ n → IsNumber e n → IsNumber e (to_z w128 (of_z w128 r))
+number_made e n r is number =
+    let few = number.few in
+    let size = ap unsigned_abs is in
+    subst (IsNumber e) (sym (small_read r (omega arith) ∙ is)) number
+
+pub two_numbers : (e x y : ℤ) → IsNumber e x → IsNumber e y → All (IsNumber e) (x ∷ (y ∷ []))
+two_numbers e x y first second = All-cons (IsNumber e) x (y ∷ []) first (All-cons (IsNumber e) y [] second (All-nil (IsNumber e)))
+
+pub four_numbers : (e x y z w : ℤ) → IsNumber e x → IsNumber e y → All (IsNumber e) (z ∷ (w ∷ [])) → All (IsNumber e) (x ∷ (y ∷ (z ∷ (w ∷ []))))
+four_numbers e x y z w first second others = All-cons (IsNumber e) x (y ∷ (z ∷ (w ∷ []))) first (All-cons (IsNumber e) y (z ∷ (w ∷ [])) second others)

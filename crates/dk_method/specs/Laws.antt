@@ -1,5 +1,5 @@
 -- What is true of the points of vector, list, centered and multidimensional studies, in the subject's words.
-use Rattle.std.specs.Prelude.{◌≡◌, ℕ, ◌+◌, ◌*◌, ◌^◌, ◌<◌, ◌≤◌, List, [], ◌∷◌, length, replicate, set, get_or, sum, ℤ, pos, unsigned_abs}
+use Rattle.std.specs.Prelude.{◌≡◌, ℕ, ◌+◌, ◌-◌, ◌*◌, ◌^◌, ◌<◌, ◌≤◌, List, [], ◌∷◌, length, replicate, set, get_or, take, sum, ℤ, pos, unsigned_abs, int_lt, if◌then◌else◌}
 use Rattle.std.specs.List.{All}
 use Rattle.dk_types.specs.declared.study.Study.{Study}
 use Rattle.dk_types.specs.Limits.{grid_size}
@@ -23,9 +23,19 @@ pub record IsReach (counts : List ℕ) (variable : ℕ) (steps : ℤ) : Type 0 w
   pub some : 1 ≤ unsigned_abs steps
   pub few : unsigned_abs steps ≤ get_or counts variable 0
 
--- just one move has this variable alone moved by so many steps
+-- how many moves of a variable come before the one by so many steps: from as many steps back as it may go up to one step
+-- back, then from one step on up to as many on
+abbrev pub moves_before : (count : ℕ) → (steps : ℤ) → ℕ
+moves_before count steps = if int_lt steps (pos 0) then count - unsigned_abs steps else count + unsigned_abs steps - 1
+
+-- the place of a move: behind all moves of the variables before this one
+abbrev pub place_of_move : (counts : List ℕ) → (variable : ℕ) → (steps : ℤ) → ℕ
+place_of_move counts variable steps = 2 * sum (take variable counts) + moves_before (get_or counts variable 0) steps
+
+-- just one move has this variable alone moved by so many steps, the one at its place
 pub record IsMovedOnce (counts : List ℕ) (variable : ℕ) (steps : ℤ) : Type 0 where
   pub number : ℕ
+  pub at : number ≡ place_of_move counts variable steps
   pub within : number < 2 * sum counts
   pub alone : IsMovedAlone counts number variable steps
   pub only : (k : ℕ) → k < 2 * sum counts → IsMovedAlone counts k variable steps → k ≡ number

@@ -2,13 +2,13 @@
 ghost use Rattle.std.specs.Prelude.{◌≡◌, ◌+◌, ◌*◌, ◌<◌, ◌≤◌, ◌^◌, length, map, sum, get_or, pos, ◌+ℤ◌, ◌*ℤ◌, unsigned_abs};
 ghost use Rattle.std.specs.List.{All};
 ghost use Rattle.dk_num.specs.Units.{in_units, IsUnitExponent};
-ghost use Rattle.dk_types.specs.Points.{around, offset as offset_lem};
+ghost use Rattle.dk_types.specs.Points.{around, offset as offset_of};
 ghost use Rattle.dk_types.specs.Sound.{IsNumber, IsBetween};
 ghost use Rattle.dk_method.specs.Moves.{IsMove};
 
 use crate::vector::stepped;
-use crate::written::{decimal, put_units};
-use dk_num::{Dec, Unit};
+use crate::written::put_units;
+use dk_num::{Dec, Unit, from_units};
 
 /// Writes the point of this number around a centre: the centre itself at 0.
 pub fn put_around(
@@ -33,7 +33,7 @@ pub fn put_around(
     if i > 0 {
         let moved = move_of(counts, i - 1);
         let place = moved.variable;
-        out[place] = decimal(stepped(centre[place], step[place], moved.offset), unit);
+        out[place] = from_units(stepped(centre[place], step[place], moved.offset), unit);
     }
 }
 
@@ -65,7 +65,7 @@ fn move_of(counts: &[u32], k: u32) -> Move
 fn offset(count: u32, k: u32) -> i128
     requires count { count ≤ 10000 }
     requires within { k < 2 * count }
-    ensures value { result ≡ offset_lem count k }
+    ensures value { result ≡ offset_of count k }
     ensures few { unsigned_abs result ≤ 10000 }
 {
     if k < count {

@@ -6,8 +6,7 @@ ghost use Rattle.dk_types.specs.Points.{in_grid};
 ghost use Rattle.dk_types.specs.Sound.{IsNumber, IsBetween, IsBound};
 
 use crate::vector::part_way;
-use crate::written::decimal;
-use dk_num::{Dec, Unit};
+use dk_num::{Dec, Unit, from_units};
 use dk_types::Variables;
 
 /// Writes the point of this number of the grid between the variables' bounds.
@@ -30,7 +29,7 @@ pub fn put_bounded(i: u32, partitions: &[u32], variables: &Variables, unit: Unit
 }
 
 /// Writes the point of this number of a grid, the first variable varying fastest.
-fn put_in_grid(
+pub fn put_in_grid(
     i: u32,
     partitions: &[u32],
     lower: &[i128],
@@ -50,7 +49,7 @@ fn put_in_grid(
     let mut left = i;
     for place in 0..partitions.len() {
         let parts = partitions[place];
-        out[place] = decimal(
+        out[place] = from_units(
             part_way(left % (parts + 1), parts, lower[place], upper[place]),
             unit,
         );

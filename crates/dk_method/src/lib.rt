@@ -5,7 +5,9 @@ mod centered;
 mod grid;
 pub mod laws;
 mod planning;
+#[cfg(test)]
+mod tests;
 mod vector;
 mod written;
 
-pub use planning::{Planning, has_points, plan_of};
+pub use planning::{Planning, plan_of};

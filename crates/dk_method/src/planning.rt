@@ -1,8 +1,8 @@
 // The plan of a study.
 ghost use Rattle.std.specs.Prelude.{◌≡◌, ◌<◌, IfOk, IsTrue, length};
 ghost use Rattle.dk_types.specs.Sound.{IsSound};
-ghost use Rattle.dk_types.specs.Points.{point, size};
-ghost use Rattle.dk_method.specs.Plans.{has_points as has_points_lem, Planned};
+ghost use Rattle.dk_types.specs.Points.{has_points, point, size};
+ghost use Rattle.dk_method.specs.Plans.{PlanningState};
 
 use crate::centered::put_around;
 use crate::grid::put_bounded;
@@ -26,33 +26,20 @@ pub struct Planning {
 }
 
 impl Model for Planning {
-    ghost use Rattle.dk_method.specs.Plans.{Planned, IsPlanned};
+    ghost use Rattle.dk_method.specs.Plans.{PlanningState, IsPlanningState};
 
-    ghost Value = { Planned };
+    ghost Value = { PlanningState };
 
     ghost view = { λ p. record { study = p.study; before = p.before; count = p.count } };
 
-    ghost invariant = { λ p. IsPlanned (record { study = p.study; before = p.before; count = p.count }) };
-}
-
-/// Whether a study's points are known from the beginning, as those of each method but `compass_search`.
-pub fn has_points(study: &Study) -> bool
-    ensures { result ≡ has_points_lem study.now.method }
-{
-    match &study.method {
-        Method::Vector { .. }
-        | Method::List { .. }
-        | Method::Centered { .. }
-        | Method::Multidim { .. } => true,
-        Method::Compass { .. } => false,
-    }
+    ghost invariant = { λ p. IsPlanningState (record { study = p.study; before = p.before; count = p.count }) };
 }
 
 /// A plan of a study, of which no batch is handed out yet. The study's method isn't `compass_search`. Only want of memory
 /// is an error.
 pub fn plan_of(alloc: Global, study: &Study) -> Result<Planning, AllocError>
-    requires { IsTrue (has_points_lem study.now.method) }
-    ensures { IfOk result (λ planning. planning ≡ record { study = study.now; before = 0; count = 0 }) }
+    requires has_points { IsTrue (has_points study.now.method) }
+    ensures plans_study { IfOk result (λ planning. planning ≡ record { study = study.now; before = 0; count = 0 }) }
 {
     Ok(Planning {
         study: study.copy(alloc)?,
@@ -95,7 +82,7 @@ impl Planner for Planning {
 /// Writes the point of this number, counted from 0.
 fn put_point(study: &Study, i: u32, out: &mut [Dec])
     requires sound { IsSound study.now }
-    requires points { IsTrue (has_points_lem study.now.method) }
+    requires points { IsTrue (has_points study.now.method) }
     requires within { i < size study.now }
     requires room { length out.old ≡ length study.now.variables.labels }
     ensures { out.new ≡ point study.now i }

@@ -5,8 +5,8 @@ ghost use Rattle.dk_num.specs.Units.{in_units, IsUnitExponent};
 ghost use Rattle.dk_types.specs.Points.{after_steps, towards, on_the_way};
 ghost use Rattle.dk_types.specs.Sound.{IsNumber};
 
-use crate::written::{decimal, put_units};
-use dk_num::{Dec, Unit, divide_round};
+use crate::written::put_units;
+use dk_num::{Dec, Unit, divide_round, from_units};
 
 /// Writes the point so many steps from the first.
 pub fn put_after_steps(i: u32, from: &[i128], step: &[i128], unit: Unit, out: &mut [Dec])
@@ -19,7 +19,7 @@ pub fn put_after_steps(i: u32, from: &[i128], step: &[i128], unit: Unit, out: &m
     ensures { out.new ≡ map (in_units unit.exponent) (after_steps i from.now step.now) }
 {
     for place in 0..from.len() {
-        out[place] = decimal(stepped(from[place], step[place], i128::from(i)), unit);
+        out[place] = from_units(stepped(from[place], step[place], i128::from(i)), unit);
     }
 }
 
@@ -49,7 +49,7 @@ pub fn put_towards(i: u32, steps: u32, from: &[i128], to: &[i128], unit: Unit, o
         return put_units(from, unit, out);
     }
     for place in 0..from.len() {
-        out[place] = decimal(part_way(i, steps, from[place], to[place]), unit);
+        out[place] = from_units(part_way(i, steps, from[place], to[place]), unit);
     }
 }
 

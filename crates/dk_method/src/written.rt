@@ -6,15 +6,6 @@ ghost use Rattle.dk_types.specs.Sound.{IsNumber};
 
 use dk_num::{Dec, Unit, from_units};
 
-/// The decimal of a number of units.
-pub fn decimal(number: i128, unit: Unit) -> Dec
-    requires unit { IsUnitExponent unit.exponent }
-    requires small { unsigned_abs number < 10 ^ 34 }
-    ensures { result ≡ in_units unit.exponent number }
-{
-    from_units(number, unit)
-}
-
 /// Writes the decimals of numbers of units.
 pub fn put_units(numbers: &[i128], unit: Unit, out: &mut [Dec])
     requires unit { IsUnitExponent unit.exponent }
@@ -23,7 +14,7 @@ pub fn put_units(numbers: &[i128], unit: Unit, out: &mut [Dec])
     ensures { out.new ≡ map (in_units unit.exponent) numbers.now }
 {
     for place in 0..numbers.len() {
-        out[place] = decimal(numbers[place], unit);
+        out[place] = from_units(numbers[place], unit);
     }
 }
 

@@ -11,8 +11,8 @@ returns-then-i-gt0 c =
     let new : ℤ = get_or c.args.centre.now c.move_of-moved.result.variable (pos 0) +ℤ (c.move_of-moved.result.offset *ℤ get_or c.args.step.now c.move_of-moved.result.variable (pos 0)) in
     let made = move_made c.args.unit.exponent c.args.centre.now c.args.step.now c.move_of-moved.result.variable c.move_of-moved.result.offset c.stepped.result c.requires.centre c.requires.step inside
     c.requires.along is.few c.stepped.ensures.small c.stepped.ensures.value in
-    ap (λ l. set l c.move_of-moved.result.variable c.decimal.result) c.put_units.ensures
-    ∙ ap (set (map (in_units c.args.unit.exponent) c.args.centre.now) c.move_of-moved.result.variable) (c.decimal.ensures ∙ ap (in_units c.args.unit.exponent) made)
+    ap (λ l. set l c.move_of-moved.result.variable c.from_units.result) c.put_units.ensures
+    ∙ ap (set (map (in_units c.args.unit.exponent) c.args.centre.now) c.move_of-moved.result.variable) (c.from_units.ensures.gives_units ∙ ap (in_units c.args.unit.exponent) made)
     ∙ sym (map-set (in_units c.args.unit.exponent) c.args.centre.now c.move_of-moved.result.variable new)
     ∙ ap (map (in_units c.args.unit.exponent)) (around_moved c.args.i c.args.centre.now c.args.step.now c.args.counts.now c.move_of-moved.result (omega arith) is c.requires.along c.requires.counted)
 

@@ -26,7 +26,7 @@ loop-place-preserved c =
     let long = grid_long c.args.i c.args.partitions.now c.args.lower.now c.args.upper.now c.requires.lower_long c.requires.upper_long in
     let choice = choice_at c.args.partitions.now c.args.i c.loop-place.place c.loop-place.left c.loop-place-test.true c.loop-place.invariant.left in
     record {
-      filled = filled_more _ _ _ _ _ _ (omega arith) c.decimal.ensures
+      filled = filled_more _ _ _ _ _ _ (omega arith) c.from_units.ensures.gives_units
           (way_made c.args.unit.exponent _ _ c.args.lower.now c.args.upper.now c.loop-place.place c.part_way.result c.requires.lower c.requires.upper along above
           c.part_way.ensures.small c.part_way.ensures.value
           ∙ ap (λ n. on_the_way n (get_or c.args.partitions.now c.loop-place.place 0) (get_or c.args.lower.now c.loop-place.place (pos 0)) (get_or c.args.upper.now c.loop-place.place (pos 0))) choice

@@ -10,7 +10,7 @@ loop-place-init c = filled_none _ _ _ (c.requires.room ∙ sym (way_long c.args.
 pub loop-place-preserved : goal.loop-place-preserved
 loop-place-preserved c =
     let long = way_long c.args.i c.args.steps c.args.from.now c.args.to.now c.requires.along in
-    filled_more _ _ _ _ _ _ (omega arith) c.decimal.ensures
+    filled_more _ _ _ _ _ _ (omega arith) c.from_units.ensures.gives_units
     (way_made c.args.unit.exponent c.args.i c.args.steps c.args.from.now c.args.to.now c.loop-place.place c.part_way.result c.requires.from c.requires.to c.loop-place-test.true (omega arith)
     c.part_way.ensures.small c.part_way.ensures.value ∙ way_at c.args.i c.args.steps c.args.from.now c.args.to.now c.loop-place.place c.loop-place-test.true c.requires.along)
     c.loop-place.invariant

@@ -7,7 +7,7 @@ pub loop-place-init : goal.loop-place-init
 loop-place-init c = filled_none _ _ _ c.requires.room
 
 pub loop-place-preserved : goal.loop-place-preserved
-loop-place-preserved c = filled_more _ _ _ _ _ _ c.loop-place-test.true c.decimal.ensures (number_read _ _ _ c.requires.numbers c.loop-place-test.true) c.loop-place.invariant
+loop-place-preserved c = filled_more _ _ _ _ _ _ c.loop-place-test.true c.from_units.ensures.gives_units (number_read _ _ _ c.requires.numbers c.loop-place-test.true) c.loop-place.invariant
 
 pub returns : goal.returns
 returns c = filled_all _ _ _ _ (omega arith) c.loop-place.invariant
