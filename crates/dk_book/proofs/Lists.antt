@@ -32,7 +32,7 @@ place_kept f xs y k h = at (nat_lt (position_or_len f xs) (length xs)) refl h
         ap (λ m. cond (nat_lt m (length (xs ++ y ∷ []))) (Some m) None) p
         ∙ ap (λ t. cond t (Some (position_or_len f xs)) None) (lt-ltb (position_or_len f xs) (length (xs ++ y ∷ [])) (omega arith)) ∙ ap Some n
 
-none_first : {A : Type 0} (f : A → Bool) (xs : List A) → position f xs ≡ None → position_or_len f xs ≡ length xs
+pub none_first : {A : Type 0} (f : A → Bool) (xs : List A) → position f xs ≡ None → position_or_len f xs ≡ length xs
 none_first f xs e = at (nat_lt (position_or_len f xs) (length xs)) refl e
   where
     at : (t : Bool) → nat_lt (position_or_len f xs) (length xs) ≡ t → cond t (Some (position_or_len f xs)) None ≡ None → position_or_len f xs ≡ length xs

@@ -1,11 +1,11 @@
 -- The cards of points and their marks, and where the card of a point stands.
 use Rattle.std.proofs.Common.{◌≡◌, ℕ, zero, suc, ◌+◌, ◌<◌, ◌≤◌, Bool, true, false, not, List, [], ◌∷◌, ◌++◌, length, get_or, drop, Option, Some, None, refl, ap, sym, subst, ◌∙◌, arith, cond, nat_lt}
-use Rattle.std.specs.Prelude.{option_map, slice_get, position, is_some, if◌then◌else◌}
+use Rattle.std.specs.Prelude.{◌^◌, option_map, slice_get, position, is_some, IfSome, replicate, if◌then◌else◌}
 use Rattle.std.specs.List.{All, find, position_or_len}
 use Rattle.std.specs.Option.{option_or}
 use Rattle.std.proofs.lemmas.Bool.{lt-ltb, le-ltb, ltb-true}
-use Rattle.std.proofs.lemmas.List.{length_push, drop-drop}
-use Rattle.std.proofs.lemmas.List.Elements.{All-drop, All-push}
+use Rattle.std.proofs.lemmas.List.{length_push, drop-drop, length-replicate, get_or-replicate}
+use Rattle.std.proofs.lemmas.List.Elements.{All-drop, All-push, All-weaker}
 use Rattle.std.proofs.lemmas.List.Folds.{find_at, find-append}
 use Rattle.std.proofs.lemmas.List.Sums.{position_or_len_is}
 use Rattle.std.proofs.lemmas.Option.{get_or_from_slice_get, slice_get-get_or}
@@ -54,7 +54,7 @@ cards_first values (p ∷ points) [] q h = absurd (omega arith)
 cards_first values (p ∷ points) (mark ∷ marks) q h = ap (λ n. cond (not (same_point p q)) (1 + n) 0) (cards_first values points marks q (omega arith))
 
 -- so a card has the place of that point
-place_of_cards : (values points : List (List Decimal)) (marks : List Mark) (q : List Decimal) → length points ≤ length marks →
+pub place_of_cards : (values points : List (List Decimal)) (marks : List Mark) (q : List Decimal) → length points ≤ length marks →
     place_of (cards_by values points marks) q ≡ position (λ p. same_point p q) points
 place_of_cards values points marks q h =
     ap (λ n. cond (nat_lt n (length (cards_by values points marks))) (Some n) None) (cards_first values points marks q h)
@@ -129,6 +129,24 @@ sum_up_more cards p entries sum = record {
 -- a point without a card gets one
 pub with_new : (cards : List Card) (p : List Decimal) → place_of cards p ≡ None → with_card cards p ≡ cards ++ blank p ∷ []
 with_new cards p none = ap (λ o. if is_some o then cards else cards ++ blank p ∷ []) none
+
+-- A book that begins
+
+kept_empty : (width spare : ℕ) (values : PoolState) (marks : List Mark) → length marks ≡ spare → All (λ mark. mark ≡ unmarked) marks → spare < 2 ^ 32 →
+    IsKept (record { rows = []; width = width; spare = spare }) values marks
+kept_empty width spare values marks enough blank few = record {
+  enough = omega arith;
+  blank = blank;
+  there = All-weaker (λ mark. mark ≡ unmarked) (λ mark. IfSome mark.values (λ row. row.index < length values.rows)) (λ mark e. subst (λ (m : Mark). IfSome m.values (λ row. row.index < length values.rows)) (sym e) tt) marks blank;
+  book = record { distinct = tt; cards = λ i d l. absurd (omega arith); few = omega arith };
+}
+
+-- with room for cards, and no points
+pub kept_none : (points values : PoolState) (marks : List Mark) (cards : ℕ) → points.rows ≡ [] → points.spare ≡ cards → cards < 2 ^ 32 → marks ≡ replicate cards unmarked → IsKept points values marks
+kept_none points values marks cards none room few are =
+    subst (λ rows. IsKept (record { rows = rows; width = points.width; spare = points.spare }) values marks) (sym none)
+    (kept_empty points.width points.spare values marks (ap length are ∙ length-replicate cards unmarked ∙ sym room)
+    (subst (All (λ mark. mark ≡ unmarked)) (sym are) (λ i d l. get_or-replicate cards i unmarked d (let long = length-replicate cards unmarked in omega arith))) (omega arith))
 
 -- A point put behind the others
 

@@ -1,15 +1,18 @@
 // The book of cards.
-ghost use Rattle.std.specs.Prelude.{◌≡◌, ℕ, ◌+◌, ◌*◌, ◌^◌, ◌<◌, ◌≤◌, List, [], ◌∷◌, ◌++◌, length, slice_get, option_map, IfOk, IfSome, IsTrue, Some, None};
+ghost use Rattle.std.specs.Prelude.{◌≡◌, ℕ, ◌+◌, ◌*◌, ◌^◌, ◌<◌, ◌≤◌, List, [], ◌∷◌, ◌++◌, All, length, slice_get, option_map, IfOk, IfSome, IsTrue, Some, None};
 ghost use Rattle.dk_types.specs.declared.entry.Entry.{Entry};
 ghost use Rattle.dk_types.specs.Entries.{kept, values_of};
-ghost use Rattle.dk_num.specs.Decimal.{Decimal};
-ghost use Rattle.dk_types.specs.Answers.{retries as retries_lem, given_up as given_up_lem, Value, Next};
+ghost use Rattle.dk_num.specs.Decimal.{Decimal, IsCanonical};
+ghost use Rattle.dk_types.specs.Answers.{retries as allowed_retries, given_up as answer_given_up, Value, Next};
 ghost use Rattle.dk_types.specs.Sound.{IsSoundRule};
 ghost use Rattle.dk_types.specs.Best.{same_point};
 ghost use Rattle.dk_types.specs.Cards.{place_of, SumUp};
+ghost use Rattle.dk_book.specs.Hashes as hashes;
 ghost use Rattle.dk_book.specs.Books.{IsBook, IsDue, with_card, with_attempt, room_taken};
 ghost use Rattle.dk_book.specs.Told.{told, StandsFor, said_at, answer_at, said_there, answer_there, entry_of};
 
+use crate::hash::hash_of;
+use crate::index::Index;
 use dk_num::Dec;
 use dk_pool::{Pool, RowId};
 use dk_types::{FailRule, Outcome};
@@ -48,23 +51,26 @@ struct Mark {
 ///
 /// Contracts see the cards in the order of their placing, which have distinct points; how many decimals a point and
 /// the values of an attempt have; for how many more points there is room; and how many more cards can get values. Only
-/// `reserve` takes memory.
+/// `reserve` takes memory. A card is found by a hash of its point.
 #[derive(Drop)]
 pub struct Book {
     points: Pool,
     values: Pool,
     marks: Vec<Mark>,
+    index: Index,
 }
 
 impl Model for Book {
     ghost use Rattle.dk_book.specs.Books.{BookState};
-    ghost use Rattle.dk_book.specs.Kept.{book_by, IsKept};
+    ghost use Rattle.std.specs.Prelude.{nat_eq};
+    ghost use Rattle.indexmap.specs.IndexMap.{get, spare as left};
+    ghost use Rattle.dk_book.specs.Kept.{book_by, IsStored};
 
     ghost Value = { BookState };
 
     ghost view = { λ b. book_by b.points b.values b.marks.items };
 
-    ghost invariant = { λ b. IsKept b.points b.values b.marks.items };
+    ghost invariant = { λ b. IsStored b.points b.values b.marks.items (get nat_eq b.index.last) b.index.before.items (left b.index.last) };
 }
 
 impl Book {
@@ -79,11 +85,11 @@ impl Book {
         cards: usize,
         values: usize,
     ) -> Result<Book, AllocError>
-        requires cards { cards < 2 ^ 32 }
-        requires values { values < 2 ^ 32 }
-        requires of_points { cards * variables ≤ 2 ^ 25 }
-        requires of_values { values * responses ≤ 2 ^ 25 }
-        ensures { IfOk result (λ b. b ≡ record { cards = []; variables = variables; responses = responses; spare = cards; room = values }) }
+        requires has_few_cards { cards < 2 ^ 32 }
+        requires has_few_values { values < 2 ^ 32 }
+        requires fits_points { cards * variables ≤ 2 ^ 25 }
+        requires fits_values { values * responses ≤ 2 ^ 25 }
+        ensures begins_empty { IfOk result (λ b. b ≡ record { cards = []; variables = variables; responses = responses; spare = cards; room = values }) }
     {
         Ok(Book {
             points: Pool::reserve(alloc, cards, variables)?,
@@ -92,47 +98,61 @@ impl Book {
                 failures: 0,
                 values: None
             }; cards]?,
+            index: Index::reserve(alloc, cards)?,
         })
     }
 
     /// How many decimals a point has.
     pub fn variables(&self) -> usize
-        ensures { result ≡ self.now.variables }
+        ensures gives_width_of_points { result ≡ self.now.variables }
     {
         self.points.width()
     }
 
     /// How many decimals the values of an attempt have.
     pub fn responses(&self) -> usize
-        ensures { result ≡ self.now.responses }
+        ensures gives_width_of_values { result ≡ self.now.responses }
     {
         self.values.width()
     }
 
     /// How many more points can get a card.
     pub fn spare(&self) -> usize
-        ensures spare { result ≡ self.now.spare }
-        ensures book { IsBook self.now }
+        ensures gives_spare { result ≡ self.now.spare }
+        ensures is_book { IsBook self.now }
     {
         self.points.spare()
     }
 
     /// How many more cards can get values.
     pub fn room(&self) -> usize
-        ensures { result ≡ self.now.room }
+        ensures gives_room { result ≡ self.now.room }
     {
         self.values.spare()
     }
 
     /// The card of a point; none exactly where no card has it.
     pub fn find(&self, point: &[Dec]) -> Option<CardId>
-        ensures place { option_map (λ card. card.index) result ≡ place_of self.now.cards point.now }
-        ensures point { IfSome result (λ card. option_map (λ c. c.point) (slice_get self.now.cards card.index) ≡ Some point.now) }
+        ensures finds_place { option_map (λ card. card.index) result ≡ place_of self.now.cards point.now }
+        ensures finds_same_point { IfSome result (λ card. option_map (λ c. c.point) (slice_get self.now.cards card.index) ≡ Some point.now) }
     {
-        for index in 0..self.points.count() as u32 {
-            if is_same_point(self.points.row(RowId { index }), point) {
+        self.search(hash_of(point), point)
+    }
+
+    /// The card of a point with this hash, looked for among the cards of the hash, the last first.
+    fn search(&self, hash: u64, point: &[Dec]) -> Option<CardId>
+        requires is_hash { hash ≡ hashes.hash_of point.now }
+        requires canonical { All IsCanonical point.now }
+        ensures place { option_map (λ card. card.index) result ≡ place_of self.now.cards point.now }
+        ensures same_point { IfSome result (λ card. option_map (λ c. c.point) (slice_get self.now.cards card.index) ≡ Some point.now) }
+    {
+        let mut next = self.index.last_with(hash);
+        while let Some(index) = next {
+            let other = self.points.row(RowId { index });
+            if is_same_point(other, point) {
                 return Some(CardId { index });
             }
+            next = self.index.before(index);
         }
         None
     }
@@ -142,31 +162,34 @@ impl Book {
     /// The point has one decimal a variable of the book, and it has a card or there is room for one. All other cards
     /// are as they were. A new card takes room for one card, and no card takes room for values.
     pub fn place(&mut self, point: &[Dec]) -> CardId
-        requires width { length point.now ≡ self.old.variables }
-        requires spare { place_of self.old.cards point.now ≡ None → 1 ≤ self.old.spare }
-        ensures cards { self.new.cards ≡ with_card self.old.cards point.now }
-        ensures card { place_of self.new.cards point.now ≡ Some result.index }
-        ensures point { option_map (λ c. c.point) (slice_get self.new.cards result.index) ≡ Some point.now }
-        ensures spare { length self.new.cards + self.new.spare ≡ length self.old.cards + self.old.spare }
-        ensures room { self.new.room ≡ self.old.room }
-        ensures variables { self.new.variables ≡ self.old.variables }
-        ensures responses { self.new.responses ≡ self.old.responses }
-        ensures book { IsBook self.new }
-        ensures entries { (entries : List Entry) → StandsFor self.old entries → StandsFor self.new entries }
+        requires has_width { length point.now ≡ self.old.variables }
+        requires has_room { place_of self.old.cards point.now ≡ None → 1 ≤ self.old.spare }
+        ensures places_card { self.new.cards ≡ with_card self.old.cards point.now }
+        ensures names_card { place_of self.new.cards point.now ≡ Some result.index }
+        ensures names_same_point { option_map (λ c. c.point) (slice_get self.new.cards result.index) ≡ Some point.now }
+        ensures takes_room { length self.new.cards + self.new.spare ≡ length self.old.cards + self.old.spare }
+        ensures keeps_room { self.new.room ≡ self.old.room }
+        ensures keeps_width_of_points { self.new.variables ≡ self.old.variables }
+        ensures keeps_width_of_values { self.new.responses ≡ self.old.responses }
+        ensures is_book { IsBook self.new }
+        ensures stands_for_entries { (entries : List Entry) → StandsFor self.old entries → StandsFor self.new entries }
     {
-        match self.find(point) {
+        let hash = hash_of(point);
+        match self.search(hash, point) {
             Some(card) => card,
-            None => CardId {
-                index: self.points.put_row(point).index,
-            },
+            None => {
+                let row = self.points.put_row(point);
+                self.index.add(row.index, hash);
+                CardId { index: row.index }
+            }
         }
     }
 
     /// What an attempt gave, by the card of its point; none exactly where the card doesn't tell of this attempt.
     pub fn said(&self, card: CardId, attempt: u32) -> Option<Outcome<'_>>
-        requires { card.index < length self.now.cards }
-        ensures card { option_map kept result ≡ said_at self.now card.index attempt }
-        ensures entries { (entries : List Entry) → StandsFor self.now entries → option_map kept result ≡ said_there self.now entries card.index attempt }
+        requires is_there { card.index < length self.now.cards }
+        ensures tells_of_card { option_map kept result ≡ said_at self.now card.index attempt }
+        ensures tells_of_entries { (entries : List Entry) → StandsFor self.now entries → option_map kept result ≡ said_there self.now entries card.index attempt }
     {
         let mark = self.marks[card.index as usize];
         if attempt == 0 {
@@ -190,12 +213,12 @@ impl Book {
     ///
     /// The number of a `Retry` is at most 1,000.
     pub fn answer<'a>(&'a self, rule: &'a FailRule, card: CardId) -> Answer<'a>
-        requires card { card.index < length self.now.cards }
-        requires rule { retries_lem rule.now ≤ 1000 }
-        ensures card { Some (told result) ≡ answer_at rule.now self.now card.index }
-        ensures entries { (entries : List Entry) → StandsFor self.now entries → Some (told result) ≡ answer_there rule.now self.now entries card.index }
-        ensures width { (values : List Decimal) → told result ≡ Value values → IsSoundRule self.now.responses rule.now → length values ≡ self.now.responses }
-        ensures due { (attempt : ℕ) → told result ≡ Next attempt → IfSome (slice_get self.now.cards card.index) (λ c. IsDue c attempt) }
+        requires is_there { card.index < length self.now.cards }
+        requires retries_few { allowed_retries rule.now ≤ 1000 }
+        ensures answers_card { Some (told result) ≡ answer_at rule.now self.now card.index }
+        ensures answers_entries { (entries : List Entry) → StandsFor self.now entries → Some (told result) ≡ answer_there rule.now self.now entries card.index }
+        ensures has_width { (values : List Decimal) → told result ≡ Value values → IsSoundRule self.now.responses rule.now → length values ≡ self.now.responses }
+        ensures asks_for_due { (attempt : ℕ) → told result ≡ Next attempt → IfSome (slice_get self.now.cards card.index) (λ c. IsDue c attempt) }
     {
         let mark = self.marks[card.index as usize];
         if mark.failures > retries(rule) {
@@ -214,17 +237,17 @@ impl Book {
     /// The card has no values, the attempt is the one behind its failures, values are one a response of the book, and
     /// for values there is room. All other cards are as they were. Values take room for the values of one card.
     pub fn add(&mut self, card: CardId, attempt: u32, outcome: Outcome<'_>)
-        requires card { card.index < length self.old.cards }
-        requires due { IfSome (slice_get self.old.cards card.index) (λ c. IsDue c attempt) }
-        requires width { IfSome (values_of (kept outcome)) (λ values. length values ≡ self.old.responses) }
-        requires room { room_taken (kept outcome) ≤ self.old.room }
-        ensures cards { self.new.cards ≡ with_attempt self.old.cards card.index (kept outcome.entry) }
-        ensures room { self.new.room + room_taken (kept outcome.entry) ≡ self.old.room }
-        ensures spare { self.new.spare ≡ self.old.spare }
-        ensures variables { self.new.variables ≡ self.old.variables }
-        ensures responses { self.new.responses ≡ self.old.responses }
-        ensures book { IsBook self.new }
-        ensures entries { (entries : List Entry) → StandsFor self.old entries →
+        requires is_there { card.index < length self.old.cards }
+        requires is_due { IfSome (slice_get self.old.cards card.index) (λ c. IsDue c attempt) }
+        requires has_width { IfSome (values_of (kept outcome)) (λ values. length values ≡ self.old.responses) }
+        requires has_room { room_taken (kept outcome) ≤ self.old.room }
+        ensures adds_attempt { self.new.cards ≡ with_attempt self.old.cards card.index (kept outcome.entry) }
+        ensures takes_room { self.new.room + room_taken (kept outcome.entry) ≡ self.old.room }
+        ensures keeps_spare { self.new.spare ≡ self.old.spare }
+        ensures keeps_width_of_points { self.new.variables ≡ self.old.variables }
+        ensures keeps_width_of_values { self.new.responses ≡ self.old.responses }
+        ensures is_book { IsBook self.new }
+        ensures stands_for_entries { (entries : List Entry) → StandsFor self.old entries →
             IfSome (slice_get self.old.cards card.index) (λ c. StandsFor self.new (entries ++ entry_of c attempt (kept outcome.entry) ∷ [])) }
     {
         let index = card.index as usize;
@@ -251,7 +274,7 @@ fn is_same_point(point: &[Dec], other: &[Dec]) -> bool
 
 /// How often a rule tries again.
 fn retries(rule: &FailRule) -> u32
-    ensures { result ≡ retries_lem rule.now }
+    ensures { result ≡ allowed_retries rule.now }
 {
     match rule {
         FailRule::Abort => 0,
@@ -262,7 +285,7 @@ fn retries(rule: &FailRule) -> u32
 
 /// What a rule makes of a point whose last attempt failed too.
 fn given_up(rule: &FailRule, attempts: u32) -> Answer<'_>
-    ensures { told result ≡ given_up_lem rule.now attempts }
+    ensures { told result ≡ answer_given_up rule.now attempts }
 {
     match rule {
         FailRule::Abort => Answer::Dead { attempts },

@@ -1,7 +1,9 @@
-//! The evaluation cache: a book of cards, one for each point that was attempted.
+//! The evaluation cache: a book of cards, one for each point that was placed.
 #![tactic(auto)]
 
 pub mod book;
+mod hash;
+mod index;
 pub mod laws;
 #[cfg(test)]
 mod tests;

@@ -1,6 +1,7 @@
 //! Books of few cards, whose points and values have one decimal each.
 ghost use Rattle.std.specs.Prelude.{◌≡◌, ◌<◌, length, IfOk};
 
+use crate::hash::hash_of;
 use crate::{Answer, Book, CardId};
 use dk_num::Dec;
 use dk_types::{Decs, FailRule, Outcome};
@@ -200,5 +201,69 @@ fn points_are_found_by_their_values(rt: HostRuntime) -> Result<(), Fail> {
         ),
         (1, 2, 1, 1)
     );
+    Ok(())
+}
+
+/// Places a point of the book's width, where there is room for a card.
+fn placed(book: &mut Book, point: &[Dec]) -> Option<CardId>
+    requires { length point.now ≡ book.old.variables }
+    ensures { book.new.variables ≡ book.old.variables }
+{
+    if book.spare() == 0 {
+        return None;
+    }
+    Some(book.place(point))
+}
+
+/// A point whose second decimal takes back what the first one did, so that all such points have the hash 0: none where
+/// the second would end with a zero.
+fn of_one_hash(first: u16) -> Option<[Dec; 2]> {
+    let first = Dec::whole(first as i128);
+    let second = hash_of(&[first]);
+    if second % 10 == 0 {
+        return None;
+    }
+    Some([first, Dec::whole(second as i128)])
+}
+
+/// Points of one hash are still so many points: each has a card of its own, and one that wasn't placed has none.
+#[test]
+fn points_of_one_hash_are_told_apart(rt: HostRuntime) -> Result<(), Fail> {
+    let mut book = Book::reserve(rt.alloc(), 2, 1, 1000, 0)?;
+    let mut cards = 0;
+    for first in 0..1000 {
+        if let Some(point) = of_one_hash(first) {
+            assert_eq!(rt; hash_of(&point), 0);
+            assert_eq!(rt; book.find(&point), None);
+            assert_eq!(rt; placed(&mut book, &point), Some(CardId { index: cards }));
+            cards = cards.saturating_add(1);
+        }
+    }
+    assert!(rt; cards > 800);
+    let mut index = 0;
+    for first in 0..1000 {
+        if let Some(point) = of_one_hash(first) {
+            assert_eq!(rt; book.find(&point), Some(CardId { index }));
+            index = index.saturating_add(1);
+        }
+    }
+    Ok(())
+}
+
+/// A million points are placed, and each is found again at its place.
+#[test]
+fn a_million_points_are_found(rt: HostRuntime) -> Result<(), Fail> {
+    let mut book = Book::reserve(rt.alloc(), 1, 1, 1_000_000, 0)?;
+    for index in 0..1_000_000 {
+        let point = [Dec::whole(index as i128 + 1)];
+        assert_eq!(rt; placed(&mut book, &point), Some(CardId { index }));
+    }
+    for index in 0..1_000_000 {
+        assert_eq!(rt;
+            book.find(&[Dec::whole(index as i128 + 1)]),
+            Some(CardId { index })
+        );
+    }
+    assert_eq!(rt; book.find(&[Dec::whole(1_000_001)]), None);
     Ok(())
 }

@@ -39,9 +39,9 @@ impl Pool {
     ///
     /// There are fewer than 2^32 rows, and together they have at most 2^25 decimals.
     pub fn reserve(alloc: Global, rows: usize, width: usize) -> Result<Pool, AllocError>
-        requires rows { rows < 2 ^ 32 }
-        requires decimals { rows * width ≤ 2 ^ 25 }
-        ensures { IfOk result (λ p. p ≡ record { rows = []; width = width; spare = rows }) }
+        requires has_few_rows { rows < 2 ^ 32 }
+        requires has_few_decimals { rows * width ≤ 2 ^ 25 }
+        ensures begins_empty { IfOk result (λ p. p ≡ record { rows = []; width = width; spare = rows }) }
     {
         Ok(Pool {
             rows: zero_rows(alloc, rows, width)?,
@@ -52,23 +52,23 @@ impl Pool {
 
     /// For how many more rows there is room.
     pub fn spare(&self) -> usize
-        ensures spare { result ≡ self.now.spare }
-        ensures few { length self.now.rows + self.now.spare < 2 ^ 32 }
+        ensures gives_spare { result ≡ self.now.spare }
+        ensures stays_small { length self.now.rows + self.now.spare < 2 ^ 32 }
     {
         self.rows.len() - self.count
     }
 
     /// How many rows there are.
     pub fn count(&self) -> usize
-        ensures count { result ≡ length self.now.rows }
-        ensures few { length self.now.rows + self.now.spare < 2 ^ 32 }
+        ensures gives_count { result ≡ length self.now.rows }
+        ensures stays_small { length self.now.rows + self.now.spare < 2 ^ 32 }
     {
         self.count
     }
 
     /// How many decimals each row has.
     pub fn width(&self) -> usize
-        ensures { result ≡ self.now.width }
+        ensures gives_width { result ≡ self.now.width }
     {
         self.width
     }
@@ -77,12 +77,12 @@ impl Pool {
     ///
     /// Afterwards there is room for one row fewer, and the rows before it are as they were.
     pub fn put_row(&mut self, row: &[Dec]) -> RowId
-        requires spare { 1 ≤ self.old.spare }
-        requires width { length row.now ≡ self.old.width }
-        ensures rows { self.new.rows ≡ self.old.rows ++ row.now ∷ [] }
-        ensures width { self.new.width ≡ self.old.width }
-        ensures spare { self.new.spare + 1 ≡ self.old.spare }
-        ensures id { result.index ≡ length self.old.rows }
+        requires has_room { 1 ≤ self.old.spare }
+        requires has_width { length row.now ≡ self.old.width }
+        ensures adds_row { self.new.rows ≡ self.old.rows ++ row.now ∷ [] }
+        ensures keeps_width { self.new.width ≡ self.old.width }
+        ensures takes_room { self.new.spare + 1 ≡ self.old.spare }
+        ensures names_row { result.index ≡ length self.old.rows }
     {
         let index = self.count as u32;
         write_row(&mut self.rows, self.count, row);
@@ -92,9 +92,9 @@ impl Pool {
 
     /// The row of this name, which is there.
     pub fn row(&self, id: RowId) -> &[Dec]
-        requires { id.index < length self.now.rows }
-        ensures row { slice_get self.now.rows id.index ≡ Some result.now }
-        ensures width { length result.now ≡ self.now.width }
+        requires is_there { id.index < length self.now.rows }
+        ensures lends_row { slice_get self.now.rows id.index ≡ Some result.now }
+        ensures has_width { length result.now ≡ self.now.width }
     {
         &self.rows[id.index as usize]
     }
@@ -103,10 +103,10 @@ impl Pool {
     ///
     /// Afterwards there is room for as many more rows as were removed.
     pub fn truncate(&mut self, rows: usize)
-        requires { rows ≤ length self.old.rows }
-        ensures rows { self.new.rows ≡ take rows self.old.rows }
-        ensures width { self.new.width ≡ self.old.width }
-        ensures spare { self.new.spare + length self.new.rows ≡ self.old.spare + length self.old.rows }
+        requires has_rows { rows ≤ length self.old.rows }
+        ensures keeps_first_rows { self.new.rows ≡ take rows self.old.rows }
+        ensures keeps_width { self.new.width ≡ self.old.width }
+        ensures gives_room_back { self.new.spare + length self.new.rows ≡ self.old.spare + length self.old.rows }
     {
         self.count = rows;
     }

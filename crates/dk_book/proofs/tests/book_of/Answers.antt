@@ -16,15 +16,15 @@ due_next (card ∷ cards) attempt due = record { none = due.none; next = ap (λ 
 
 pub loop-made-preserved : goal.loop-made-preserved
 loop-made-preserved c = record {
-  card = ap length c.add.ensures.cards ∙ attempt_length c.loop-made.book.cards 0 Failed ∙ c.loop-made.invariant.card;
-  due = subst (λ (cards : List Card). IfSome (slice_get cards 0) (λ card. IsDue card (c.loop-made.made + 1 + 1))) (sym c.add.ensures.cards)
+  card = ap length c.add.ensures.adds_attempt ∙ attempt_length c.loop-made.book.cards 0 Failed ∙ c.loop-made.invariant.card;
+  due = subst (λ (cards : List Card). IfSome (slice_get cards 0) (λ card. IsDue card (c.loop-made.made + 1 + 1))) (sym c.add.ensures.adds_attempt)
       (due_next c.loop-made.book.cards (c.loop-made.made + 1) c.loop-made.invariant.due);
   room = omega arith;
-  responses = c.add.ensures.responses ∙ c.loop-made.invariant.responses;
+  responses = c.add.ensures.keeps_width_of_values ∙ c.loop-made.invariant.responses;
 }
 
 pub returns : goal.returns
 returns c = elim c.if-is_made.branch [
-  | then-is_made w ↦ (ap (λ (book : BookState). length book.cards) w.book-is ∙ ap length w.add-then-is_made.ensures.cards ∙ attempt_length c.loop-made.book.cards 0 _ ∙ c.loop-made.invariant.card)
+  | then-is_made w ↦ (ap (λ (book : BookState). length book.cards) w.book-is ∙ ap length w.add-then-is_made.ensures.adds_attempt ∙ attempt_length c.loop-made.book.cards 0 _ ∙ c.loop-made.invariant.card)
   | else-is_made w ↦ (ap (λ (book : BookState). length book.cards) w.book-is ∙ c.loop-made.invariant.card)
 ]

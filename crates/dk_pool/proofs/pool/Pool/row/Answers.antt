@@ -18,8 +18,8 @@ filled_width made width count i row are within is =
     ∙ ap length (sym (get_or-map (λ (r : Vec Decimal). r.items) made i row))
     ∙ All-get_or (λ r. length r ≡ width) (decimals_of made) i row.items (omega arith) are.wide
 
-pub returns-clause-width : goal.returns-clause-width
-returns-clause-width c =
+pub returns-clause-has_width : goal.returns-clause-has_width
+returns-clause-has_width c =
     let within = rw (← c.self.view_is) at c.requires in
     ap length c.deref.ensures.value
     ∙ filled_width _ _ _ _ _ c.self.invariant (omega arith) c.index.ensures
