@@ -1,8 +1,10 @@
 pub mod Spelled
+pub mod Tabled
+pub mod Named
 pub mod Push
 pub mod Contexts
 pub mod Judged
 pub mod Looked
 pub mod Spans
 pub mod Growing
-pub mod Missing
+pub mod Built

@@ -1,4 +1,5 @@
 -- The blocks and items of tokens, and the faults of tokens.
+-- After the section on the format of input files in Dakota's User's Manual, and the keyword output of method.
 use Rattle.std.specs.Prelude.{◌≡◌, ℕ, Bool, false, List, [], ◌∷◌, ◌++◌, length, Option, None, is_some, is_none, option_and_then, Result, Ok, Err, ◌&&◌, ◌||◌, not, if◌then◌else◌}
 use Rattle.std.specs.List.{filter_map, flat_map, list_any, take_while}
 use Rattle.std.specs.Option.{option_map, option_map_or}
@@ -10,7 +11,7 @@ use Rattle.dk_grammar.specs.Meanings.{text_at, same_block, opened, entry_of, is_
 use Rattle.dk_grammar.specs.declared.words.Block.{Block}
 use Rattle.dk_grammar.specs.declared.words.Entry.{Entry}
 use Rattle.dk_grammar.specs.declared.words.Block.TheVariants as block
-use Rattle.dk_grammar.specs.declared.parts.Part.{Part}
+use Rattle.dk_grammar.specs.declared.parts.Opening.{Opening}
 use Rattle.dk_grammar.specs.declared.parts.Item.{Item}
 use Rattle.dk_grammar.specs.declared.parts.Tree.{Tree}
 use Rattle.dk_grammar.specs.declared.parts.GrammarFault.{GrammarFault}
@@ -45,7 +46,7 @@ module _ (text : List ℕ) where
   abbrev pub section_after : List Token → List Token
   section_after before = behind_last opens_any before
 
-  -- a token as a keyword of a block, which a block's name never is
+  -- a word that opens no block, as a keyword of this block
   abbrev pub entry_in : Block → Token → Option Entry
   entry_in b t = if opens_any t then None else (if is_word t then entry_of b (word t) else None)
 
@@ -65,11 +66,11 @@ module _ (text : List ℕ) where
   abbrev pub same_word : Token → Token → Bool
   same_word t u = is_word u && str_eq_ignore_ascii_case (word t) (word u)
 
-  -- a keyword word in no table, or a word behind output that names no mode
+  -- a word that opens no block: behind output it is none that output takes, elsewhere no keyword and not refused
   abbrev pub is_unknown : List Token → Token → Bool
   is_unknown before t = is_word t && not (opens_any t) && (if wants_mode before then not (is_mode (word t)) else not (is_keyword (word t) || is_refused (word t)))
 
-  -- a refused word, but not right behind output
+  -- a refused word that opens no block, but not right behind output
   abbrev pub is_unsupported : List Token → Token → Bool
   is_unsupported before t = is_word t && not (opens_any t) && not (wants_mode before) && is_refused (word t)
 
@@ -103,9 +104,17 @@ module _ (text : List ℕ) where
   abbrev pub end : Span
   end = record { from = length text; to = length text }
 
+  -- no token opens the block
+  abbrev pub is_missing : List Token → Block → Bool
+  is_missing tokens b = not (list_any (same_block b) (filter_map opens tokens))
+
+  -- each of these blocks that no token opens
+  abbrev pub missing_of : List Block → List Token → List GrammarFault
+  missing_of blocks tokens = flat_map (λ b. when (is_missing tokens b) (MissingBlock b end)) blocks
+
   -- each block that is needed and isn't opened
   abbrev pub missing_blocks : List Token → List GrammarFault
-  missing_blocks tokens = flat_map (λ b. when (not (list_any (same_block b) (filter_map opens tokens))) (MissingBlock b end)) needed_blocks
+  missing_blocks tokens = missing_of needed_blocks tokens
 
   -- all faults, from left to right
   unfoldable pub grammar_faults : List Token → List GrammarFault
@@ -115,24 +124,24 @@ module _ (text : List ℕ) where
   abbrev pub is_value : Token → Bool
   is_value t = not (is_word t && (opens_any t || is_keyword (word t)))
 
-  -- the part that a block's name makes
-  abbrev pub part_at : Token → Option Part
-  part_at t = option_map (λ b. record { block = b; name = t.span }) (opens t)
+  -- the block that a block's name opens
+  abbrev pub opening_at : Token → Option Opening
+  opening_at t = option_map (λ b. record { block = b; name = t.span }) (opens t)
 
   -- a keyword with its values, up to the next keyword
   abbrev pub item_at : Place Token → Option Item
-  item_at p = option_and_then (λ b. option_map (λ e. record { block = b; keyword = p.here.span; name = e.name; values = take_while is_value p.after }) (entry_at p.before p.here)) (block_after p.before)
+  item_at p = option_and_then (λ b. option_map (λ e. record { block = b; keyword = p.here.span; entry = e; values = take_while is_value p.after }) (entry_at p.before p.here)) (block_after p.before)
 
   -- the blocks and items of tokens, in the order of the text
   unfoldable pub tree_of : List Token → Tree
-  tree_of tokens = record { blocks = filter_map part_at tokens; items = filter_map item_at (places tokens) }
+  tree_of tokens = record { blocks = filter_map opening_at tokens; items = filter_map item_at (places tokens) }
 
 -- what these tokens of a text give: their tree, or their first fault
 abbrev pub GrowsTo : List ℕ → List Token → Result Tree GrammarFault → Type 0
 GrowsTo text tokens (Ok tree) = (grammar_faults text tokens ≡ []) × (tree ≡ tree_of text tokens)
 GrowsTo text tokens (Err fault) = IsFirst fault (grammar_faults text tokens)
 
--- unless memory ran out
+-- what a call answered is what the tokens give. Where memory ran out it says that they have no fault
 abbrev pub Grown : List ℕ → List Token → Result Tree GrammarFault → Type 0
-Grown text tokens (Err NoMemory) = Unit {0}
+Grown text tokens (Err NoMemory) = grammar_faults text tokens ≡ []
 Grown text tokens outcome = GrowsTo text tokens outcome

@@ -1,16 +1,14 @@
 -- The faults of a token, by what is known of it.
 use Rattle.std.specs.Prelude.{◌≤◌, ℕ, length, is_some, List, ◌++◌, ◌&&◌, ◌||◌, not, if◌then◌else◌}
-use Rattle.std.specs.List.{All, list_any, flat_map}
+use Rattle.std.specs.List.{All}
 use Rattle.dk_lex.specs.declared.token.Span.{Span}
 use Rattle.dk_lex.specs.declared.token.Token.{Token}
 use Rattle.dk_grammar.specs.Lists.{when}
-use Rattle.dk_grammar.specs.Meanings.{is_mode, is_keyword, is_refused, same_block}
+use Rattle.dk_grammar.specs.Meanings.{is_mode, is_keyword, is_refused}
 use Rattle.dk_grammar.specs.Grammar.{word, is_word, opens_any, wants_mode, entry_at, is_wanted, is_seen}
 use Rattle.dk_grammar.specs.declared.judge.Known.{Known}
-use Rattle.dk_grammar.specs.declared.words.Block.{Block}
-use Rattle.dk_grammar.specs.declared.parts.Part.{Part}
 use Rattle.dk_grammar.specs.declared.parts.GrammarFault.{GrammarFault}
-use Rattle.dk_grammar.specs.declared.parts.GrammarFault.TheVariants.{UnknownKeyword, Unsupported, Repeated, Misplaced, MissingBlock}
+use Rattle.dk_grammar.specs.declared.parts.GrammarFault.TheVariants.{UnknownKeyword, Unsupported, Repeated, Misplaced}
 
 -- the faults of a token of which this is known
 abbrev pub faults_by : Span → Known → List GrammarFault
@@ -20,7 +18,8 @@ faults_by span k =
     ++ when (if k.word then not (k.opens || k.wants_mode) && k.keyword && not k.entry else not k.taken) (Misplaced span)
     ++ when (if k.opens then k.seen else not k.wants_mode && k.entry && k.seen) (Repeated span)
 
--- what the faults need: words are looked up for word tokens alone, and sought among the earlier ones for blocks and their keywords alone
+-- what the faults need: words are looked up for word tokens alone, and sought among the earlier ones for blocks and
+-- their keywords alone
 abbrev pub known_at : List ℕ → List Token → Token → Known
 known_at text before t = record {
   word = is_word text t;
@@ -41,7 +40,3 @@ IsSpan text t = (t.span.from ≤ t.span.to) × (t.span.to ≤ length text)
 -- the tokens lie in the text
 abbrev pub AreSpans : List ℕ → List Token → Type 0
 AreSpans text tokens = All (IsSpan text) tokens
-
--- those of these blocks that are no part, each told at this place
-abbrev pub missing_among : List Block → List Part → Span → List GrammarFault
-missing_among needed parts end = flat_map (λ b. when (not (list_any (λ p. same_block b p.block) parts)) (MissingBlock b end)) needed

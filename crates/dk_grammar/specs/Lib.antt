@@ -1,4 +1,4 @@
-pub mod Words
+pub mod Table
 pub mod Lists
 pub mod Meanings
 pub mod Grammar

@@ -1,6 +1,8 @@
--- What words mean.
-use Rattle.std.specs.Prelude.{ℕ, Bool, true, false, List, Option, Some, None, if◌then◌else◌, filter, slice_range}
-use Rattle.std.specs.List.{filter_map, list_any}
+-- What words mean, by the table of words. Words are compared without regard to ASCII case.
+-- After the section on the format of input files in Dakota's User's Manual.
+use Rattle.std.specs.Prelude.{ℕ, Bool, true, false, List, Option, ◌&&◌, find, slice_range}
+use Rattle.std.specs.List.{list_any}
+use Rattle.std.specs.Option.{option_map}
 use Rattle.std.specs.Str.{str_eq_ignore_ascii_case}
 use Rattle.dk_lex.specs.declared.token.Span.{Span}
 use Rattle.dk_lex.specs.declared.token.TokenKind.{TokenKind}
@@ -8,17 +10,12 @@ use Rattle.dk_lex.specs.declared.token.TokenKind.TheVariants as kinds
 use denote.Enum.Bare.{sameb}
 use Rattle.dk_grammar.specs.contracts.words.Block as block_type
 use Rattle.dk_grammar.specs.contracts.words.Name as name_type
-use Rattle.dk_grammar.specs.Lists.{first}
-use Rattle.dk_grammar.specs.Words.{word_of}
+use Rattle.dk_grammar.specs.Table.{block_table, keyword_table, refused_table, mode_table}
 use Rattle.dk_grammar.specs.declared.words.Name.{Name}
-use Rattle.dk_grammar.specs.declared.words.Row.{Row}
 use Rattle.dk_grammar.specs.declared.words.Entry.{Entry}
 use Rattle.dk_grammar.specs.declared.words.Block.{Block}
 use Rattle.dk_grammar.specs.declared.words.Takes.{Takes}
 use Rattle.dk_grammar.specs.declared.words.Takes.TheVariants as takes
-use Rattle.dk_grammar.specs.declared.words.Meaning.{Meaning}
-use Rattle.dk_grammar.specs.declared.words.Meaning.TheVariants as meaning
-use Rattle.dk_grammar.specs.declared.words.TheConstants.{TABLE}
 
 -- the bytes of a span
 abbrev pub text_at : List ℕ → Span → List ℕ
@@ -32,66 +29,29 @@ same_block a b = sameb block_type.the_type a b
 abbrev pub same_name : Name → Name → Bool
 same_name a b = sameb name_type.the_type a b
 
--- the rows of a word, in any case
-abbrev pub rows_in : List Row → List ℕ → List Row
-rows_in table word = filter (λ r. str_eq_ignore_ascii_case (word_of r.name) word) table
-
--- the meanings of a word
-abbrev pub rows_of : List ℕ → List Row
-rows_of word = rows_in TABLE word
-
--- the block that is opened by a meaning
-abbrev pub opened_by : Meaning → Option Block
-opened_by (meaning.Opens b) = Some b
-opened_by _ = None
-
--- a meaning as a keyword of a block
-abbrev pub entry_by : Block → Name → Meaning → Option Entry
-entry_by b name (meaning.Keyword c takes count) = if same_block b c then Some (record { name = name; takes = takes; count = count }) else None
-entry_by b name _ = None
-
--- the meaning of a keyword
-abbrev pub is_keyword_by : Meaning → Bool
-is_keyword_by (meaning.Keyword b takes count) = true
-is_keyword_by _ = false
-
--- the meaning of a refused word
-abbrev pub is_refused_by : Meaning → Bool
-is_refused_by meaning.Refused = true
-is_refused_by _ = false
-
--- the meaning of a word that output takes
-abbrev pub is_mode_by : Meaning → Bool
-is_mode_by meaning.Mode = true
-is_mode_by _ = false
-
--- the first block among meanings
-abbrev pub first_opened : List Row → Option Block
-first_opened rows = first (filter_map (λ r. opened_by r.meaning) rows)
-
 -- the block that a word opens
-abbrev pub opened : List ℕ → Option Block
-opened word = first_opened (rows_of word)
-
--- the first keyword of a block among meanings
-abbrev pub first_entry : Block → List Row → Option Entry
-first_entry b rows = first (filter_map (λ r. entry_by b r.name r.meaning) rows)
+unfoldable pub opened : List ℕ → Option Block
+opened word = option_map (λ r. r.block) (find (λ r. str_eq_ignore_ascii_case r.word word) block_table)
 
 -- a word as a keyword of a block
-abbrev pub entry_of : Block → List ℕ → Option Entry
-entry_of b word = first_entry b (rows_of word)
+unfoldable pub entry_of : Block → List ℕ → Option Entry
+entry_of b word = option_map (λ r. r.entry) (find (λ r. same_block b r.block && str_eq_ignore_ascii_case r.word word) keyword_table)
+
+-- a keyword of a block by its name
+unfoldable pub entry_named : Block → Name → Option Entry
+entry_named b n = option_map (λ r. r.entry) (find (λ r. same_block b r.block && same_name n r.entry.name) keyword_table)
 
 -- a keyword of some block
-abbrev pub is_keyword : List ℕ → Bool
-is_keyword word = list_any (λ r. is_keyword_by r.meaning) (rows_of word)
+unfoldable pub is_keyword : List ℕ → Bool
+is_keyword word = list_any (λ r. str_eq_ignore_ascii_case r.word word) keyword_table
 
 -- a refused word
-abbrev pub is_refused : List ℕ → Bool
-is_refused word = list_any (λ r. is_refused_by r.meaning) (rows_of word)
+unfoldable pub is_refused : List ℕ → Bool
+is_refused word = list_any (λ refused. str_eq_ignore_ascii_case refused word) refused_table
 
 -- a word that output takes
-abbrev pub is_mode : List ℕ → Bool
-is_mode word = list_any (λ r. is_mode_by r.meaning) (rows_of word)
+unfoldable pub is_mode : List ℕ → Bool
+is_mode word = list_any (λ mode. str_eq_ignore_ascii_case mode word) mode_table
 
 -- the kind of words
 abbrev pub is_word_kind : TokenKind → Bool

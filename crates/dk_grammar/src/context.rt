@@ -7,7 +7,8 @@ ghost use Rattle.dk_grammar.specs.Meanings.{takes_mode};
 
 use crate::words::{Block, Entry, Takes};
 
-/// What the tokens before a place say of it: its block, where that block's tokens begin, the keyword whose values come next, and whether that keyword's word does.
+/// What the tokens before a place say of it: its block, where that block's tokens begin, the keyword whose values come
+/// next, and whether that keyword's word does.
 #[derive(Clone, Copy)]
 pub struct Context {
     pub block: Option<Block>,

@@ -12,17 +12,12 @@ ghost use Rattle.dk_grammar.specs.Judging.{IsSpan, AreSpans, known_at};
 
 use crate::context::Context;
 use crate::judge::{Known, token_fault};
-use crate::lookups::{entry_of, is_keyword, is_mode, is_refused, opened, opens, word_at};
+use crate::lookups::{
+    entry_of, is_alike, is_keyword, is_mode, is_refused, is_word, opens, word_at,
+};
 use crate::parts::GrammarFault;
 use crate::words::{Block, Entry, Takes};
 use dk_lex::{Token, TokenKind};
-
-/// Whether tokens of this kind are words.
-fn is_word(kind: TokenKind) -> bool
-    ensures { result ≡ is_word_kind kind }
-{
-    matches!(kind, TokenKind::Word)
-}
 
 /// Whether a keyword takes values of this kind.
 fn is_taken(takes: Takes, kind: TokenKind) -> bool
@@ -41,10 +36,7 @@ fn is_taken(takes: Takes, kind: TokenKind) -> bool
 fn is_wanted(keyword: Option<Entry>, kind: TokenKind) -> bool
     ensures { result ≡ option_map_or (λ e. is_taken e.takes kind) keyword false }
 {
-    match keyword {
-        Some(entry) => is_taken(entry.takes, kind),
-        None => false,
-    }
+    keyword.is_some_and(|entry| is_taken(entry.takes, kind))
 }
 
 /// A token as a keyword of a block.
@@ -52,12 +44,10 @@ fn entry_in(text: &[u8], block: Block, token: Token) -> Option<Entry>
     requires { IsSpan text.now token }
     ensures { result ≡ entry_in text.now block token }
 {
-    match opens(text, token) {
-        Some(_) => None,
-        None => match token.kind {
-            TokenKind::Word => entry_of(block, word_at(text, token)),
-            _ => None,
-        },
+    if opens(text, token).is_none() && is_word(token.kind) {
+        entry_of(block, word_at(text, token))
+    } else {
+        None
     }
 }
 
@@ -66,17 +56,7 @@ pub fn entry_at(text: &[u8], context: Context, token: Token) -> Option<Entry>
     requires { IsSpan text.now token }
     ensures { (before : List Token) → IsContext text.now before context → result ≡ entry_at text.now before token }
 {
-    match context.block {
-        Some(block) => entry_in(text, block, token),
-        None => None,
-    }
-}
-
-/// Whether two words are the same but for ASCII case.
-fn is_alike(a: &[u8], b: &[u8]) -> bool
-    ensures { result ≡ str_eq_ignore_ascii_case a.now b.now }
-{
-    a.eq_ignore_ascii_case(b)
+    entry_in(text, context.block?, token)
 }
 
 /// Whether another token is a word that is this token's but for ASCII case.
@@ -84,10 +64,7 @@ fn is_same_word(text: &[u8], token: Token, other: Token) -> bool
     requires { IsSpan text.now token × IsSpan text.now other }
     ensures { result ≡ same_word text.now token other }
 {
-    match other.kind {
-        TokenKind::Word => is_alike(word_at(text, token), word_at(text, other)),
-        _ => false,
-    }
+    is_word(other.kind) && is_alike(word_at(text, token), word_at(text, other))
 }
 
 /// Whether the word of a token stands among these tokens.
@@ -95,12 +72,7 @@ fn is_among(text: &[u8], tokens: &[Token], token: Token) -> bool
     requires { IsSpan text.now token × AreSpans text.now tokens.now }
     ensures { result ≡ list_any (same_word text.now token) tokens.now }
 {
-    for other in tokens {
-        if is_same_word(text, token, *other) {
-            return true;
-        }
-    }
-    false
+    tokens.iter().any(|other| is_same_word(text, token, *other))
 }
 
 /// Whether a block, or a keyword of a block, stands for the second time.
@@ -108,16 +80,13 @@ fn is_seen(text: &[u8], before: &[Token], context: Context, token: Token, entry:
     requires { IsSpan text.now token × AreSpans text.now before.now × IsContext text.now before.now context }
     ensures { result ≡ ((is_some (opens text.now token) || entry) && is_seen text.now before.now token) }
 {
-    match opens(text, token) {
-        Some(_) => is_among(text, before, token),
-        None => {
-            if entry {
-                let section = &before[context.section..];
-                is_among(text, section, token)
-            } else {
-                false
-            }
-        }
+    if opens(text, token).is_some() {
+        is_among(text, before, token)
+    } else if entry {
+        let section = &before[context.section..];
+        is_among(text, section, token)
+    } else {
+        false
     }
 }
 
@@ -126,10 +95,7 @@ fn is_mode_at(text: &[u8], token: Token) -> bool
     requires { IsSpan text.now token }
     ensures { result ≡ (is_word text.now token && is_mode (word text.now token)) }
 {
-    match token.kind {
-        TokenKind::Word => is_mode(word_at(text, token)),
-        _ => false,
-    }
+    is_word(token.kind) && is_mode(word_at(text, token))
 }
 
 /// Whether a token is a keyword of some block.
@@ -137,10 +103,7 @@ fn is_keyword_at(text: &[u8], token: Token) -> bool
     requires { IsSpan text.now token }
     ensures { result ≡ (is_word text.now token && is_keyword (word text.now token)) }
 {
-    match token.kind {
-        TokenKind::Word => is_keyword(word_at(text, token)),
-        _ => false,
-    }
+    is_word(token.kind) && is_keyword(word_at(text, token))
 }
 
 /// Whether a token is a word that is refused.
@@ -148,10 +111,7 @@ fn is_refused_at(text: &[u8], token: Token) -> bool
     requires { IsSpan text.now token }
     ensures { result ≡ (is_word text.now token && is_refused (word text.now token)) }
 {
-    match token.kind {
-        TokenKind::Word => is_refused(word_at(text, token)),
-        _ => false,
-    }
+    is_word(token.kind) && is_refused(word_at(text, token))
 }
 
 /// What is known of a token behind these.
@@ -192,30 +152,16 @@ fn is_value(text: &[u8], token: Token) -> bool
     requires { IsSpan text.now token }
     ensures { result ≡ is_value text.now token }
 {
-    match token.kind {
-        TokenKind::Word => {
-            let word = word_at(text, token);
-            match opened(word) {
-                Some(_) => false,
-                None => !is_keyword(word),
-            }
-        }
-        _ => true,
-    }
+    !(opens(text, token).is_some() || is_keyword_at(text, token))
 }
 
 /// How many values stand at the front of these tokens.
 pub fn value_count(text: &[u8], left: &[Token]) -> usize
     requires { AreSpans text.now left.now }
-    ensures count { result ≡ prefix_len (is_value text.now) left.now }
-    ensures within { result ≤ length left.now }
+    ensures gives_count { result ≡ prefix_len (is_value text.now) left.now }
+    ensures is_within { result ≤ length left.now }
 {
-    let mut count = 0;
-    for token in left {
-        if !is_value(text, *token) {
-            break;
-        }
-        count += 1;
-    }
-    count
+    left.iter()
+        .take_while(|token| is_value(text, **token))
+        .count()
 }

@@ -1,155 +1,97 @@
 // What words mean.
-ghost use Rattle.std.specs.Prelude.{◌≡◌, filter};
-ghost use Rattle.std.specs.List.{filter_map, list_any};
+ghost use Rattle.std.specs.Prelude.{◌≡◌, find, ◌&&◌};
+ghost use Rattle.std.specs.List.{list_any};
+ghost use Rattle.std.specs.Option.{option_map};
 ghost use Rattle.std.specs.Str.{str_eq_ignore_ascii_case};
-ghost use Rattle.dk_grammar.specs.Lists.{first};
-ghost use Rattle.dk_grammar.specs.Words.{word_of};
-ghost use Rattle.dk_grammar.specs.Meanings.{opened_by, opened, is_keyword_by, is_keyword, rows_in, first_opened, entry_by, first_entry, entry_of, is_refused_by, is_refused, is_mode_by, is_mode};
+ghost use Rattle.dk_grammar.specs.Meanings.{opened, is_keyword, entry_of, is_refused, is_mode, is_word_kind, same_block};
 ghost use Rattle.dk_grammar.specs.Grammar.{word, opens};
 ghost use Rattle.dk_grammar.specs.Judging.{IsSpan};
 
-use crate::words::{Block, Entry, Meaning, Name, Row, TABLE, word_of};
+use crate::table::{BlockWord, Keyword, blocks, keywords, mode_words, refused_words};
+use crate::words::{Block, Entry};
 use dk_lex::{Token, TokenKind};
 
-/// Whether a word is this one, in any ASCII case.
-pub fn is_spelled(name: Name, word: &[u8]) -> bool
-    ensures { result ≡ str_eq_ignore_ascii_case (word_of name) word.now }
+/// Whether two words are the same but for ASCII case.
+pub fn is_alike(a: &[u8], b: &[u8]) -> bool
+    ensures { result ≡ str_eq_ignore_ascii_case a.now b.now }
 {
-    word_of(name).eq_ignore_ascii_case(word)
+    a.eq_ignore_ascii_case(b)
 }
 
-fn opened_by(meaning: Meaning) -> Option<Block>
-    ensures { result ≡ opened_by meaning }
+/// The block of the first of these names that a word is.
+fn opened_by(table: &[BlockWord], word: &[u8]) -> Option<Block>
+    ensures { result ≡ option_map (λ r. r.block) (find (λ r. str_eq_ignore_ascii_case r.word.now word.now) table.now) }
 {
-    match meaning {
-        Meaning::Opens(block) => Some(block),
-        _ => None,
-    }
-}
-
-fn opened_in(table: &[Row], word: &[u8]) -> Option<Block>
-    ensures { result ≡ first_opened (rows_in table.now word.now) }
-{
-    for row in table {
-        if is_spelled(row.name, word) {
-            if let Some(block) = opened_by(row.meaning) {
-                return Some(block);
-            }
-        }
-    }
-    None
+    table
+        .iter()
+        .find(|row| is_alike(row.word, word))
+        .map(|row| row.block)
 }
 
 /// The block that a word opens, in any ASCII case.
 pub fn opened(word: &[u8]) -> Option<Block>
     ensures { result ≡ opened word.now }
 {
-    opened_in(&TABLE, word)
+    opened_by(blocks(), word)
 }
 
-fn is_keyword_by(meaning: Meaning) -> bool
-    ensures { result ≡ is_keyword_by meaning }
+/// Whether a word is one of these keywords.
+fn is_keyword_in(table: &[Keyword], word: &[u8]) -> bool
+    ensures { result ≡ list_any (λ r. str_eq_ignore_ascii_case r.word.now word.now) table.now }
 {
-    matches!(meaning, Meaning::Keyword(_, _, _))
-}
-
-fn is_keyword_in(table: &[Row], word: &[u8]) -> bool
-    ensures { result ≡ list_any (λ r. is_keyword_by r.meaning) (rows_in table.now word.now) }
-{
-    for row in table {
-        if is_spelled(row.name, word) && is_keyword_by(row.meaning) {
-            return true;
-        }
-    }
-    false
+    table.iter().any(|row| is_alike(row.word, word))
 }
 
 /// Whether a word is a keyword of some block.
 pub fn is_keyword(word: &[u8]) -> bool
     ensures { result ≡ is_keyword word.now }
 {
-    is_keyword_in(&TABLE, word)
+    is_keyword_in(keywords(), word)
 }
 
-fn entry_by(block: Block, name: Name, meaning: Meaning) -> Option<Entry>
-    ensures { result ≡ entry_by block name meaning }
+/// What the first of these keywords takes that is a word of a block.
+fn entry_among(table: &[Keyword], block: Block, word: &[u8]) -> Option<Entry>
+    ensures { result ≡ option_map (λ r. r.entry) (find (λ r. same_block block r.block && str_eq_ignore_ascii_case r.word.now word.now) table.now) }
 {
-    match meaning {
-        Meaning::Keyword(other, takes, count) if block == other => Some(Entry {
-            name,
-            takes,
-            count,
-        }),
-        _ => None,
-    }
-}
-
-fn entry_among(table: &[Row], block: Block, word: &[u8]) -> Option<Entry>
-    ensures { result ≡ first_entry block (rows_in table.now word.now) }
-{
-    for row in table {
-        if is_spelled(row.name, word) {
-            if let Some(entry) = entry_by(block, row.name, row.meaning) {
-                return Some(entry);
-            }
-        }
-    }
-    None
+    table
+        .iter()
+        .find(|row| block == row.block && is_alike(row.word, word))
+        .map(|row| row.entry)
 }
 
 /// What a word is as a keyword of a block, in any ASCII case, and None where the block has no such keyword.
 pub fn entry_of(block: Block, word: &[u8]) -> Option<Entry>
     ensures { result ≡ entry_of block word.now }
 {
-    entry_among(&TABLE, block, word)
+    entry_among(keywords(), block, word)
 }
 
-fn is_refused_by(meaning: Meaning) -> bool
-    ensures { result ≡ is_refused_by meaning }
+/// Whether a word is one of these.
+fn is_one_of(table: &[&[u8]], word: &[u8]) -> bool
+    ensures { result ≡ list_any (λ w. str_eq_ignore_ascii_case w.now word.now) table.now }
 {
-    matches!(meaning, Meaning::Refused)
-}
-
-fn is_refused_in(table: &[Row], word: &[u8]) -> bool
-    ensures { result ≡ list_any (λ r. is_refused_by r.meaning) (rows_in table.now word.now) }
-{
-    for row in table {
-        if is_spelled(row.name, word) && is_refused_by(row.meaning) {
-            return true;
-        }
-    }
-    false
+    table.iter().any(|listed| is_alike(listed, word))
 }
 
 /// Whether a word is refused.
 pub fn is_refused(word: &[u8]) -> bool
     ensures { result ≡ is_refused word.now }
 {
-    is_refused_in(&TABLE, word)
-}
-
-fn is_mode_by(meaning: Meaning) -> bool
-    ensures { result ≡ is_mode_by meaning }
-{
-    matches!(meaning, Meaning::Mode)
-}
-
-fn is_mode_in(table: &[Row], word: &[u8]) -> bool
-    ensures { result ≡ list_any (λ r. is_mode_by r.meaning) (rows_in table.now word.now) }
-{
-    for row in table {
-        if is_spelled(row.name, word) && is_mode_by(row.meaning) {
-            return true;
-        }
-    }
-    false
+    is_one_of(refused_words(), word)
 }
 
 /// Whether `output` takes a word.
 pub fn is_mode(word: &[u8]) -> bool
     ensures { result ≡ is_mode word.now }
 {
-    is_mode_in(&TABLE, word)
+    is_one_of(mode_words(), word)
+}
+
+/// Whether tokens of this kind are words.
+pub fn is_word(kind: TokenKind) -> bool
+    ensures { result ≡ is_word_kind kind }
+{
+    matches!(kind, TokenKind::Word)
 }
 
 /// The bytes of a token.
@@ -165,8 +107,9 @@ pub fn opens(text: &[u8], token: Token) -> Option<Block>
     requires { IsSpan text.now token }
     ensures { result ≡ opens text.now token }
 {
-    match token.kind {
-        TokenKind::Word => opened(word_at(text, token)),
-        _ => None,
+    if is_word(token.kind) {
+        opened(word_at(text, token))
+    } else {
+        None
     }
 }

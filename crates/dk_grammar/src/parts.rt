@@ -1,55 +1,56 @@
 // What a study's tokens give: blocks, keywords with their values, or a fault.
 ghost use Rattle.std.specs.Prelude.{◌≡◌};
 
-use crate::words::{Block, Name};
+use crate::words::{Block, Entry};
 use dk_lex::{Span, Tokens};
 use std::alloc::AllocError;
 use std::marker::Model;
 
 /// A block that a text opens, and the span of the name that opens it.
 #[derive(Clone, Copy, Debug, PartialEq, Eq)]
-pub struct Part {
+pub struct Opening {
     pub block: Block,
     pub name: Span,
 }
 
-/// A keyword of a block, with the span where it stands and the tokens behind it that are its values.
+/// A keyword of a block, with the span where it stands, what the block has under it, and the tokens behind it that are
+/// its values.
 #[derive(Debug, Drop)]
 pub struct Item {
     pub block: Block,
     pub keyword: Span,
-    pub name: Name,
+    pub entry: Entry,
     pub values: Tokens,
 }
 
 /// Blocks, in the order of their names in the text.
 #[derive(Debug, Drop)]
 pub struct Blocks {
-    parts: Vec<Part>,
+    openings: Vec<Opening>,
 }
 
 impl Model for Blocks {
     ghost use Rattle.std.specs.Prelude.{List};
-    ghost use Rattle.dk_grammar.specs.declared.parts.Part.{Part};
+    ghost use Rattle.dk_grammar.specs.declared.parts.Opening.{Opening};
 
-    ghost Value = { List Part };
+    ghost Value = { List Opening };
 
-    ghost view = { λ b. b.parts.items };
+    ghost view = { λ b. b.openings.items };
 }
 
 impl Blocks {
     /// The blocks of a vector.
-    pub fn of_vec(parts: Vec<Part>) -> Blocks
-        ensures { result ≡ parts.items }
+    pub fn of_vec(openings: Vec<Opening>) -> Blocks
+        ensures { result ≡ openings.items }
     {
-        Blocks { parts }
+        Blocks { openings }
     }
 
     /// The blocks, from the first to the last.
-    pub fn items(&self) -> &[Part]
+    pub fn items(&self) -> &[Opening]
         ensures { result.now ≡ self.now }
     {
-        &self.parts
+        &self.openings
     }
 }
 
@@ -94,7 +95,8 @@ pub struct Tree {
 /// Why tokens give no tree. A fault of a token has the token's span.
 #[derive(Clone, Copy, Debug, PartialEq, Eq)]
 pub enum GrammarFault {
-    /// The word is no block, no keyword and not refused, or it stands right behind `output` and says nothing of how much to write.
+    /// The word is no block, no keyword and not refused, or it stands right behind `output` and says nothing of how much
+    /// to write.
     UnknownKeyword(Span),
     /// The word is one of Dakota's that is refused here.
     Unsupported(Span),
@@ -102,9 +104,10 @@ pub enum GrammarFault {
     Repeated(Span),
     /// The keyword stands outside of a block that has it, or the value behind no keyword that takes such values.
     Misplaced(Span),
-    /// All tokens are in order, but this block, which each study has, isn't there. The span is empty, at the text's end.
+    /// All tokens are in order, but this block, which each study has, isn't there. The span is empty, at the text's
+    /// end.
     MissingBlock(Block, Span),
-    /// Memory ran out, or the text has 2^32 bytes or more, so that no span can name its end.
+    /// There was no memory for the tree. The tokens have no fault.
     NoMemory,
 }
 

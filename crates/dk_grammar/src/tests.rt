@@ -36,13 +36,13 @@ fn told_values(alloc: Global, line: &mut String, values: &Tokens) -> Result<(), 
 /// The blocks of a tree, and its keywords with their values.
 fn told_tree(alloc: Global, tree: &Tree) -> Result<String, AllocError> {
     let mut line = String::new(alloc);
-    for part in tree.blocks.items() {
-        let Span { from, to } = part.name;
-        line.push_str(&format!(in alloc; "{:?} {from}..{to};", part.block)?)?;
+    for opening in tree.blocks.items() {
+        let Span { from, to } = opening.name;
+        line.push_str(&format!(in alloc; "{:?} {from}..{to};", opening.block)?)?;
     }
     for item in tree.items.items() {
         let Span { from, to } = item.keyword;
-        line.push_str(&format!(in alloc; "{:?} {:?} {from}..{to}:", item.block, item.name)?)?;
+        line.push_str(&format!(in alloc; "{:?} {:?} {from}..{to}:", item.block, item.entry.name)?)?;
         told_values(alloc, &mut line, &item.values)?;
     }
     Ok(line)

@@ -1,12 +1,14 @@
 -- What stands between the quotes of strings.
-use Rattle.std.proofs.Common.{◌≡◌, ℕ, ◌+◌, ◌-◌, ◌≤◌, true, List, [], ◌∷◌, ◌++◌, length, take, drop, refl, sym, ap, ◌∙◌, subst, arith, length-append, append_assoc}
+use Rattle.std.proofs.Common.{◌≡◌, ℕ, ◌+◌, ◌-◌, true, List, [], ◌∷◌, ◌++◌, length, take, drop, get_or, refl, sym, ap, ◌∙◌, subst, arith, length-append, append_assoc}
 use Rattle.std.specs.List.{list_all, slice_range}
 use Rattle.std.proofs.lemmas.List.{drop_at, take_at}
+use Rattle.std.proofs.Math.Seq.{get_or-append_seam}
 use Rattle.std.proofs.lemmas.List.Elements.{All-append, All-cons, All-nil}
 use Rattle.dk_lex.specs.declared.token.Token.{Token}
+use Rattle.dk_lex.specs.declared.token.TokenKind.TheVariants as kinds
 use Rattle.dk_lex.specs.declared.form.Form.{Form}
 use Rattle.dk_lex.specs.declared.form.Form.TheVariants.{White, Separator, Comment, Quoted, Word}
-use Rattle.dk_lex.specs.Bytes.{is_string_byte}
+use Rattle.dk_lex.specs.Bytes.{is_quote, is_string_byte}
 use Rattle.dk_lex.specs.Cut.{Piece, Looks, ArePieces, HasTokens, text_of, tokens_from, token_at, word_kind}
 use Rattle.dk_lex.specs.Spans.{IsString, AreStrings, is_printed}
 use Rattle.dk_lex.proofs.Runs.{both, left_of, right_of}
@@ -25,8 +27,9 @@ slice_between front bytes after text from to whole starts ends =
     let tail : drop from text ≡ bytes ++ after = ap (drop from) whole ∙ drop_at front (bytes ++ after) from starts in
     rw len (ap (take (length bytes)) tail ∙ take_at bytes after (length bytes) refl)
 
--- the token of a quoted piece has room for its quotes, and printed bytes between them
-quoted_token : (text before bytes after later : List ℕ) (at : ℕ) → text ≡ before ++ (bytes ++ after) → length before ≡ at → Looks Quoted bytes later → (at + 2 ≤ at + length bytes) × (list_all is_printed (slice_range text (at + 1) (at + length bytes - 1)) ≡ true)
+-- the token of a quoted piece has its quotes first and last, and printed bytes between them
+quoted_token : (text before bytes after later : List ℕ) (at : ℕ) → text ≡ before ++ (bytes ++ after) → length before ≡ at → Looks Quoted bytes later →
+    IsString text (record { kind = kinds.Quoted; span = record { from = at; to = at + length bytes } })
 quoted_token text before bytes after later at whole starts looks =
     let q = looks.0 in
     let s = looks.1 in
@@ -35,7 +38,12 @@ quoted_token text before bytes after later at whole starts looks =
     whole ∙ ap (λ l. before ++ (l ++ after)) looks.3 ∙ ap (λ l. before ++ q ∷ l) (append_assoc s (q ∷ []) after) ∙ sym (append_assoc before (q ∷ []) (s ++ q ∷ after)) in
     let inner : slice_range text (at + 1) (at + length bytes - 1) ≡ s =
     slice_between (before ++ q ∷ []) s (q ∷ after) text (at + 1) (at + length bytes - 1) same (omega (arith, length-append before (q ∷ []), starts)) (omega (arith, len)) in
-    (omega (arith, len), subst (λ l. list_all is_printed l ≡ true) (sym inner) (printed_inside q s looks.4))
+    let opens : get_or text at 0 ≡ q =
+    subst (λ k. get_or text k 0 ≡ q) starts (ap (λ l. get_or l (length before) 0) (same ∙ append_assoc before (q ∷ []) (s ++ q ∷ after)) ∙ get_or-append_seam before q (s ++ q ∷ after) 0) in
+    let end : at + length bytes - 1 ≡ length (before ++ q ∷ s) = omega (arith, len, starts, length-append before (q ∷ s)) in
+    let closes : get_or text (at + length bytes - 1) 0 ≡ q =
+    subst (λ k. get_or text k 0 ≡ q) (sym end) (ap (λ l. get_or l (length (before ++ q ∷ s)) 0) (same ∙ append_assoc before (q ∷ []) (s ++ q ∷ after) ∙ sym (append_assoc before (q ∷ s) (q ∷ after))) ∙ get_or-append_seam (before ++ q ∷ s) q after 0) in
+    (omega (arith, len), subst (λ l. list_all is_printed l ≡ true) (sym inner) (printed_inside q s looks.4), subst (λ b. is_quote b ≡ true) (sym opens) looks.2, closes ∙ sym opens)
 
 -- a piece's token is a string if it is quoted
 piece_string : (text before bytes after later : List ℕ) (form : Form) (at : ℕ) → text ≡ before ++ (bytes ++ after) → length before ≡ at → Looks form bytes later → AreStrings text (token_at at form bytes)

@@ -9,15 +9,11 @@ use Rattle.dk_lex.specs.declared.token.LexFault.TheVariants.{OpenString, BadByte
 use Rattle.dk_lex.specs.declared.form.Form.{Form}
 use Rattle.dk_lex.specs.declared.form.Form.TheVariants.{White, Separator, Comment, Quoted, Word}
 use Rattle.dk_lex.specs.Bytes.{is_separator, is_quote, is_word_byte, is_string_byte, starts_white}
-use Rattle.dk_lex.specs.Cut.{Piece, IsPiece, Looks, ArePieces, HasTokens, IsFirstLexFault, BeginsNone, stray, bad_in_string, unclosed, EndsLine, begins_nothing, text_of, tokens_from, LexesTo, EachTextLexes, span}
+use Rattle.dk_lex.specs.Cut.{Piece, IsPiece, Looks, ArePieces, BeginsNoPiece, IsCutAsFarAsCanBe, EachTextIsCut, HasTokens, IsFirstLexFault, BeginsNone, stray, bad_in_string, unclosed, EndsLine, begins_nothing, text_of, tokens_from, LexesTo, EachTextLexes, span}
 use Rattle.dk_lex.proofs.Runs.{left_of, right_of}
 use Rattle.dk_lex.proofs.Fronts.{quote_ends}
 use Rattle.dk_lex.proofs.Existence.{lexes_some}
 use Rattle.dk_lex.proofs.SamePieces.{form_of, same_piece, piece_form, quote_form}
-
--- no piece is at the front
-pub NoPiece : List ℕ → Type 0
-NoPiece left = (p : Piece) (after : List ℕ) → left ≡ p.bytes ++ after → IsPiece p after → ⊥
 
 -- one cut, and the same bytes left
 pub record SameCut (ps qs : List Piece) (a b : List ℕ) : Type 0 where
@@ -25,8 +21,7 @@ pub record SameCut (ps qs : List Piece) (a b : List ℕ) : Type 0 where
   pub left : a ≡ b
 
 -- a text has one cut that ends where no piece is
-pub same_cut : (ps qs : List Piece) (a b : List ℕ) → ArePieces ps a → ArePieces qs b → NoPiece a → NoPiece b → text_of ps ++ a ≡ text_of qs ++ b → SameCut ps qs a b
-unfolding NoPiece
+pub same_cut : (ps qs : List Piece) (a b : List ℕ) → ArePieces ps a → ArePieces qs b → BeginsNoPiece a → BeginsNoPiece b → text_of ps ++ a ≡ text_of qs ++ b → SameCut ps qs a b
 same_cut [] [] a b hp hq na nb e = record { pieces = refl; left = e }
 same_cut [] (q ∷ qs) a b hp hq na nb e = absurd (na q (text_of qs ++ b) (e ∙ append_assoc q.bytes (text_of qs) b) hq.0)
 same_cut (p ∷ ps) [] a b hp hq na nb e = absurd (nb p (text_of ps ++ a) (sym e ∙ append_assoc p.bytes (text_of ps) a) hp.0)
@@ -36,8 +31,7 @@ same_cut (p ∷ ps) (q ∷ qs) a b hp hq na nb e =
     record { pieces = λ i. first.piece i ∷ others.pieces i; left = others.left }
 
 -- nothing begins behind the end
-no_piece_in_none : NoPiece []
-unfolding NoPiece
+no_piece_in_none : BeginsNoPiece []
 no_piece_in_none p after e h = omega (arith, ap length e, length-append p.bytes after, h.some)
 
 -- the first of five tests holds
@@ -147,8 +141,7 @@ closed_of q rest p after quoted e h = by p.form p.bytes h.some h.looks e
             }
 
 -- where there is a fault no piece begins
-pub no_piece_at : (at : ℕ) (left : List ℕ) (fault : LexFault) → BeginsNone at left fault → NoPiece left
-unfolding NoPiece
+pub no_piece_at : (at : ℕ) (left : List ℕ) (fault : LexFault) → BeginsNone at left fault → BeginsNoPiece left
 no_piece_at at left _ (stray b rest e none) p after same h = by p.form p.bytes h.some h.looks same
   where
     by : (f : Form) (bytes : List ℕ) → 0 < length bytes → Looks f bytes after → left ≡ bytes ++ after → ⊥
@@ -240,6 +233,24 @@ module _ (text : List ℕ) where
   same_outcome (Ok ts) (Err f) h k = absurd (cut_and_fault ts f h k)
   same_outcome (Err f) (Ok ts) h k = absurd (cut_and_fault ts f k h)
   same_outcome (Err f) (Err g) h k = ap Err (both_fault f g h k)
+
+-- the cut of a text's outcome goes as far as can be
+cut_of : (text : List ℕ) (outcome : Result (List Token) LexFault) → LexesTo text outcome → (pieces : List Piece) × (left : List ℕ) × IsCutAsFarAsCanBe text pieces left
+cut_of text (Ok tokens) h = (h.pieces, [], record { front = h.cut; none = no_piece_in_none })
+cut_of text (Err fault) h = (h.pieces, h.left, record { front = h.front; none = no_piece_at (length (text_of h.pieces)) h.left fault h.none })
+
+-- each text has one cut
+pub each_text_is_cut : EachTextIsCut
+each_text_is_cut text =
+    let outcome = lexes_some text in
+    let cut = cut_of text outcome.0 outcome.1 in (
+      cut.0,
+      cut.1,
+      cut.2,
+      λ others rest h.
+          let s = same_cut others cut.0 rest cut.1 h.front.each cut.2.front.each h.none cut.2.none (sym h.front.whole ∙ cut.2.front.whole) in
+          (s.pieces, s.left),
+    )
 
 -- the law
 pub each_text_lexes : EachTextLexes

@@ -1,4 +1,5 @@
 -- Which bytes pieces are made of.
+-- After the section on the format of input files in Dakota's User's Manual, of ASCII texts alone.
 use Rattle.std.specs.Prelude.{ℕ, Bool, false, List, [], ◌∷◌, ◌==◌, ◌&&◌, ◌||◌, not, nat_le}
 use Rattle.std.specs.List.{list_all, take_while}
 

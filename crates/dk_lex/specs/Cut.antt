@@ -1,4 +1,5 @@
 -- A text as a list of pieces.
+-- After the section on the format of input files in Dakota's User's Manual: separators, comments, strings, long lines.
 use Rattle.std.specs.Prelude.{◌≡◌, ℕ, ◌+◌, ◌<◌, Bool, List, [], ◌∷◌, ◌++◌, length, IsTrue, ◌==◌, ◌||◌, not, Result, Ok, Err, if◌then◌else◌}
 use Rattle.std.specs.List.{list_all, flat_map}
 use Rattle.dk_lex.specs.Bytes.{is_separator, is_quote, is_in_line, is_word_byte, is_string_byte, begins_number, starts_white}
@@ -54,6 +55,15 @@ pub record CutsFront (text : List ℕ) (pieces : List Piece) (left : List ℕ) :
 abbrev pub IsCut : List ℕ → List Piece → Type 0
 IsCut text pieces = CutsFront text pieces []
 
+-- no piece is at the front of these bytes
+abbrev pub BeginsNoPiece : List ℕ → Type 0
+BeginsNoPiece bytes = (p : Piece) (after : List ℕ) → bytes ≡ p.bytes ++ after → IsPiece p after → ⊥
+
+-- the text is cut into these pieces as far as a piece begins, and these bytes are left
+pub record IsCutAsFarAsCanBe (text : List ℕ) (pieces : List Piece) (left : List ℕ) : Type 0 where
+  pub front : CutsFront text pieces left
+  pub none : BeginsNoPiece left
+
 -- so many bytes from this place on
 abbrev pub span : ℕ → ℕ → Span
 span from len = record { from = from; to = from + len }
@@ -91,7 +101,7 @@ pub data BeginsNone (at : ℕ) (bytes : List ℕ) : LexFault → Type 0 where
   unclosed : (quote : ℕ) (text after : List ℕ) → bytes ≡ quote ∷ (text ++ after) → IsTrue (is_quote quote) → IsTrue (list_all (is_string_byte quote) text) →
       EndsLine after → BeginsNone at bytes (OpenString (span at (1 + length text)))
 
--- the first fault: the text is cut up to a place where no piece begins
+-- the first fault: the text is cut up to a place where no piece begins, for this reason
 pub record IsFirstLexFault (text : List ℕ) (fault : LexFault) : Type 0 where
   pub pieces : List Piece
   pub left : List ℕ
@@ -113,6 +123,12 @@ LexesTo text (Err fault) = IsFirstLexFault text fault
 abbrev pub Lexed : List ℕ → Result (List Token) LexFault → Type 0
 Lexed text (Err NoMemory) = Unit {0}
 Lexed text outcome = LexesTo text outcome
+
+-- each text has a cut that goes as far as can be, and one alone
+abbrev pub EachTextIsCut : Type 0
+EachTextIsCut =
+    (text : List ℕ) → (pieces : List Piece) × (left : List ℕ) × IsCutAsFarAsCanBe text pieces left
+    × ((others : List Piece) (rest : List ℕ) → IsCutAsFarAsCanBe text others rest → (others ≡ pieces) × (rest ≡ left))
 
 -- each text has its tokens or a first fault, and one of them alone
 abbrev pub EachTextLexes : Type 0

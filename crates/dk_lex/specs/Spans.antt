@@ -1,6 +1,7 @@
 -- Where tokens stand in a text, and what strings have inside.
-use Rattle.std.specs.Prelude.{ℕ, ◌+◌, ◌-◌, ◌<◌, ◌≤◌, Bool, List, [], ◌∷◌, length, IsTrue, ◌&&◌, nat_le}
+use Rattle.std.specs.Prelude.{◌≡◌, ℕ, ◌+◌, ◌-◌, ◌<◌, ◌≤◌, Bool, List, [], ◌∷◌, length, IsTrue, ◌&&◌, nat_le, slice_index}
 use Rattle.std.specs.List.{All, list_all, slice_range}
+use Rattle.dk_lex.specs.Bytes.{is_quote}
 use Rattle.dk_lex.specs.declared.token.Span.{Span}
 use Rattle.dk_lex.specs.declared.token.Token.{Token}
 use Rattle.dk_lex.specs.declared.token.TokenKind.{TokenKind}
@@ -23,15 +24,17 @@ is_printed b = nat_le 32 b && nat_le b 126
 abbrev pub inside : List ℕ → Span → List ℕ
 inside text s = slice_range text (s.from + 1) (s.to - 1)
 
--- a string has two bytes or more, and visible bytes and blanks alone between the first and the last, its quotes
+-- a string has two bytes or more: the first is a quote, the last the same one, and between them stand visible bytes and
+-- blanks alone
 abbrev pub IsStringAt : List ℕ → TokenKind → Span → Type 0
-IsStringAt text kinds.Quoted s = (s.from + 2 ≤ s.to) × IsTrue (list_all is_printed (inside text s))
+IsStringAt text kinds.Quoted s =
+    (s.from + 2 ≤ s.to) × IsTrue (list_all is_printed (inside text s)) × IsTrue (is_quote (slice_index text s.from)) × (slice_index text (s.to - 1) ≡ slice_index text s.from)
 IsStringAt text _ s = Unit {0}
 
 -- this token is such a string, or no string
 abbrev pub IsString : List ℕ → Token → Type 0
 IsString text t = IsStringAt text t.kind t.span
 
--- the strings have room for two quotes, and visible bytes and blanks alone between them
+-- the strings begin and end with one quote, with visible bytes and blanks alone between the two
 abbrev pub AreStrings : List ℕ → List Token → Type 0
 AreStrings text tokens = All (IsString text) tokens

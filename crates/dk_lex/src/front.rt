@@ -57,24 +57,17 @@ fn belongs(run: Run, byte: u8) -> bool
 
 /// How many bytes at the front belong to the run.
 fn run_length(run: Run, rest: &[u8]) -> usize
-    ensures count { result ≡ prefix_len (belongs run) rest.now }
-    ensures within { result ≤ length rest.now }
+    ensures gives_count { result ≡ prefix_len (belongs run) rest.now }
+    ensures is_within { result ≤ length rest.now }
 {
-    let mut n = 0;
-    for byte in rest {
-        if !belongs(run, *byte) {
-            break;
-        }
-        n += 1;
-    }
-    n
+    rest.iter().take_while(|byte| belongs(run, **byte)).count()
 }
 
 /// How many bytes at the front are white space. At a backslash the whole run of blanks is passed at once, so that no
 /// byte is looked at for each backslash before it.
 fn white_length(rest: &[u8]) -> usize
-    ensures count { result ≡ white_length rest.now }
-    ensures within { result ≤ length rest.now }
+    ensures gives_count { result ≡ white_length rest.now }
+    ensures is_within { result ≤ length rest.now }
 {
     let mut n = 0;
     while n < rest.len() {
@@ -96,10 +89,10 @@ fn white_length(rest: &[u8]) -> usize
 
 /// A string at the front, or why there is none.
 fn string_front(rest: &[u8]) -> Front
-    requires some { 0 < length rest.now }
-    requires quoted { IsTrue (is_quote (slice_index rest.now 0)) }
-    ensures begins { Begins rest.now result }
-    ensures within { Within rest.now result }
+    requires has_bytes { 0 < length rest.now }
+    requires is_quoted { IsTrue (is_quote (slice_index rest.now 0)) }
+    ensures gives_front { Begins rest.now result }
+    ensures is_within { Within rest.now result }
 {
     let quote = rest[0];
     let tail = &rest[1..];
@@ -119,8 +112,8 @@ fn string_front(rest: &[u8]) -> Front
 /// What stands at the front of a text.
 pub fn front_of(rest: &[u8]) -> Front
     requires { 0 < length rest.now }
-    ensures begins { Begins rest.now result }
-    ensures within { Within rest.now result }
+    ensures gives_front { Begins rest.now result }
+    ensures is_within { Within rest.now result }
 {
     let first = rest[0];
     let white = white_length(rest);

@@ -52,20 +52,22 @@ fn push_token(items: &mut Vec<Token>, at: usize, form: Form, bytes: &[u8]) -> Re
 /// with bytes 32 to 126 between them, and words, the longest runs of bytes 33 to 126 that are none of these. A word
 /// that begins with a digit, a sign or a point is a number.
 ///
-/// Of each text just one cut can be made, up to its end or to its first fault; `each_text_lexes` says so. The answer is
-/// the tokens of that cut in order, each with its span, a string's with both quotes (`spans`: they lie in the text, one
-/// behind the other, and none is empty; `strings`: a string has two bytes or more, and bytes 32 to 126 alone between its
-/// first and its last, which are its quotes). Else it is
+/// Each text has just one cut into longest pieces, which goes to its end or to the place where no piece begins;
+/// `each_text_is_cut` says so. Where it goes to the end, the answer is the tokens of its pieces in order, each with its
+/// span, a string's with both quotes. They lie in the text, one behind the other, and none is empty
+/// (`gives_spans_in_order`). A string begins and ends with one quote, with bytes 32 to 126 alone between the two
+/// (`gives_closed_strings`). Else the answer is the first fault, at the place where the cut ends:
 ///
 /// - `OpenString` where the line or the text ends before the string, with the span from the quote to that end;
 /// - `BadByte`, with the span of one byte, where a byte is none that may stand there: in a string, closed or not, before
-///   the string's `OpenString`, and elsewhere where it begins nothing, as a backslash within a line;
-/// - `NoMemory` where there was no memory for the tokens, which says nothing of the text.
+///   the string's `OpenString`, and elsewhere where it begins nothing, as a backslash within a line.
+///
+/// `NoMemory` where there was no memory for the tokens says nothing of the text. After an error there are no tokens.
 pub fn lex(alloc: Global, text: &[u8]) -> Result<Tokens, LexFault>
     requires { length text.now ≤ 1048576 }
-    ensures outcome { Lexed text.now result }
-    ensures spans { IfOk result (AreSpans text.now) }
-    ensures strings { IfOk result (AreStrings text.now) }
+    ensures gives_outcome { Lexed text.now result }
+    ensures gives_spans_in_order { IfOk result (AreSpans text.now) }
+    ensures gives_closed_strings { IfOk result (AreStrings text.now) }
 {
     let mut items = Vec::new(alloc);
     let mut at = 0;

@@ -4,7 +4,7 @@ ghost use Rattle.std.specs.Prelude.{◌≡◌};
 use std::alloc::{AllocError, AllocFailed};
 use std::marker::Model;
 
-/// The bytes of a text from one place up to another, which isn't of them.
+/// The bytes of a text from one place up to another, which isn't of them. Places are counted in bytes from 0.
 #[derive(Clone, Copy, Debug, PartialEq, Eq)]
 pub struct Span {
     pub from: u32,
@@ -52,6 +52,7 @@ impl Tokens {
         Tokens { items }
     }
 
+    /// The tokens, from the first to the last.
     pub fn items(&self) -> &[Token]
         ensures { result.now ≡ self.now }
     {

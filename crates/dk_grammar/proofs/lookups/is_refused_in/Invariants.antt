@@ -1,7 +1,0 @@
-use Rattle.std.proofs.Common.{◌≡◌, drop}
-use Rattle.std.specs.List.{list_any}
-use Rattle.dk_grammar.specs.Meanings.{rows_in, is_refused_by}
-use Rattle.dk_grammar.proofs.lookups.is_refused_in.Given as goal
-
-abbrev pub invariant-loop-row : goal.invariant-loop-row
-invariant-loop-row l = list_any (λ r. is_refused_by r.meaning) (rows_in (drop l.row-index l.table) l.word) ≡ list_any (λ r. is_refused_by r.meaning) (rows_in l.table l.word)
