@@ -9,6 +9,7 @@ use Rattle.dk_grammar.specs.declared.words.Name.TheVariants as name
 use Rattle.dk_reader.specs.declared.document.Document.{Document}
 use Rattle.dk_reader.specs.declared.fault.StudyFault.{StudyFault}
 use Rattle.dk_reader.specs.Values.{number}
+use Rattle.dk_reader.specs.Document.{AreNamed}
 use Rattle.dk_reader.specs.Study.{unit_exponent, written_values, limit}
 use Rattle.dk_reader.specs.Steps.{study_faults, step1, step2, step3, step4, step5, step6, step7, step8, step9, step10, step11, step12}
 use Rattle.dk_reader.specs.Checks.{faults_before_unit, faults_from_unit}
@@ -54,21 +55,21 @@ module _ (d : Document) (none : None ≡ first (faults_before_unit d)) where
       let p7 = empty_parts (step7 d) _ p6.1 in let p8 = empty_parts (step8 d) _ p7.1 in let p9 = empty_parts (step9 d) _ p8.1 in
       (p5.0, (empty_parts (step10 d) [] p9.1).0)
 
-  pub moderate : AreModerate (map number (written_values d))
-  moderate = are_moderate d values_and_size.0
+  pub moderate : AreNamed d.fields → AreModerate (map number (written_values d))
+  moderate named = are_moderate d named values_and_size.0
 
   pub few : limit d ≤ 100000
   few = (few_of_size d values_and_size.1).0
 
 -- the numbers of each keyword can be told in units
-pub measured : (d : Document) → AreMeasured (unit_exponent d) d
-measured d = let within = are_within d in let e = unit_exponent d in record {
-  initial_point = values_within block.Variables name.InitialPoint _ refl refl refl e d within;
-  lower_bounds = values_within block.Variables name.LowerBounds _ refl refl refl e d within;
-  upper_bounds = values_within block.Variables name.UpperBounds _ refl refl refl e d within;
-  step_vector = values_within block.Method name.StepVector _ refl refl refl e d within;
-  final_point = values_within block.Method name.FinalPoint _ refl refl refl e d within;
-  list_of_points = values_within block.Method name.ListOfPoints _ refl refl refl e d within;
-  initial_delta = values_within block.Method name.InitialDelta _ refl refl refl e d within;
-  threshold_delta = values_within block.Method name.ThresholdDelta _ refl refl refl e d within;
+pub measured : (d : Document) → AreNamed d.fields → AreMeasured (unit_exponent d) d
+measured d named = let within = are_within d in let e = unit_exponent d in record {
+  initial_point = values_within block.Variables name.InitialPoint _ refl refl refl e d named within;
+  lower_bounds = values_within block.Variables name.LowerBounds _ refl refl refl e d named within;
+  upper_bounds = values_within block.Variables name.UpperBounds _ refl refl refl e d named within;
+  step_vector = values_within block.Method name.StepVector _ refl refl refl e d named within;
+  final_point = values_within block.Method name.FinalPoint _ refl refl refl e d named within;
+  list_of_points = values_within block.Method name.ListOfPoints _ refl refl refl e d named within;
+  initial_delta = values_within block.Method name.InitialDelta _ refl refl refl e d named within;
+  threshold_delta = values_within block.Method name.ThresholdDelta _ refl refl refl e d named within;
 }

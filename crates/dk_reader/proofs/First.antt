@@ -1,10 +1,10 @@
 -- The first fault of a list of checks.
 use Rattle.std.proofs.Common.{◌≡◌, ℕ, suc, ◌+◌, ◌-◌, ◌<◌, List, [], ◌∷◌, ◌++◌, length, drop, get_or, refl, sym, ap, ◌∙◌, arith}
-use Rattle.std.specs.Prelude.{Option, Some, None}
+use Rattle.std.specs.Prelude.{Bool, true, false, Option, Some, None, find}
 use Rattle.std.specs.List.{flat_map, range_with_len}
-use Rattle.std.specs.Option.{option_or}
+use Rattle.std.specs.Option.{option_or, option_map}
 use Rattle.std.proofs.Math.Seq.{drop-cons}
-use Rattle.dk_grammar.specs.Lists.{first}
+use Rattle.dk_grammar.specs.Lists.{first, when}
 use Rattle.dk_reader.specs.declared.fault.StudyFault.{StudyFault}
 use Rattle.dk_reader.specs.Steps.{Faults}
 
@@ -25,6 +25,15 @@ first_or (x ∷ xs) b = refl
 
 pub joined : (a b : Faults) (x y z : Option StudyFault) → x ≡ first a → y ≡ first b → z ≡ option_or x y → z ≡ first (a ++ b)
 joined a b x y z front behind e = e ∙ ap (λ o. option_or o y) front ∙ ap (option_or (first a)) behind ∙ first_or a b
+
+-- the fault at the first element that passes a test is the first of those at each
+pub found_first : {X : Type 0} (p : X → Bool) (f : X → StudyFault) (xs : List X) → option_map f (find p xs) ≡ first (flat_map (λ x. when (p x) (f x)) xs)
+found_first p f [] = refl
+found_first p f (x ∷ xs) = by (p x) refl (found_first p f xs)
+  where
+    by : (t : Bool) → p x ≡ t → option_map f (find p xs) ≡ first (flat_map (λ x. when (p x) (f x)) xs) → option_map f (find p (x ∷ xs)) ≡ first (flat_map (λ x. when (p x) (f x)) (x ∷ xs))
+    by true t rest = rw t refl
+    by false t rest = rw t rest
 
 module _ {X : Type 0} (check : X → Faults) (xs : List X) (i : ℕ) (x : X) (within : i < length xs) (is : x ≡ get_or xs i x) where
   left : flat_map check (drop i xs) ≡ check x ++ flat_map check (drop (i + 1) xs)

@@ -10,6 +10,7 @@ mod Printed
 mod Readable
 pub mod Says
 mod TextReads
+pub mod TableEntries
 pub mod SoundLists
 pub mod SoundSteps
 pub mod SoundKeywords
@@ -26,3 +27,4 @@ pub mod SoundCases
 pub mod SoundMethods
 pub mod Sound
 pub mod Checking
+mod WorkedStudies

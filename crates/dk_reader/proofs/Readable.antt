@@ -35,11 +35,11 @@ module _ (text : List ℕ) where
 
   -- a keyword has values from those behind it
   with_item : (b : Option Block) (e : Option Entry) (span : Span) (after : List Token) (items : List Item) → All (IsReadable text) after → AreReadable text items →
-      AreReadable text (cons_option (option_and_then (λ b. option_map (λ e. record { block = b; keyword = span; name = e.name; values = take_while (is_value text) after }) e) b) items)
+      AreReadable text (cons_option (option_and_then (λ b. option_map (λ e. record { block = b; keyword = span; entry = e; values = take_while (is_value text) after }) e) b) items)
   with_item None e span after items values rest = rest
   with_item (Some b) None span after items values rest = rest
   with_item (Some b) (Some e) span after items values rest =
-      All-cons HasReadable (record { block = b; keyword = span; name = e.name; values = take_while (is_value text) after }) items
+      All-cons HasReadable (record { block = b; keyword = span; entry = e; values = take_while (is_value text) after }) items
       (All-take (IsReadable text) (prefix_len (is_value text) after) after values) rest
 
   items_after : (before left : List Token) → All (IsReadable text) left → AreReadable text (filter_map (item_at text) (places_after before left))

@@ -13,7 +13,7 @@ use Rattle.dk_grammar.specs.declared.words.Count.TheVariants as counts
 use Rattle.dk_grammar.specs.declared.parts.Tree.{Tree}
 use Rattle.dk_reader.specs.declared.document.Document.{Document}
 use Rattle.dk_reader.specs.Values.{spread, number}
-use Rattle.dk_reader.specs.Document.{document_of, has, values_at, whole_at, string_at, variable_count, response_count}
+use Rattle.dk_reader.specs.Document.{AreNamed, document_of, has, values_at, whole_at, string_at, variable_count, response_count}
 use Rattle.dk_reader.specs.Study.{unit_exponent, variables_of, responses_of, initial_units, units_if, words_of, driver_of, rule_of, concurrency_of, method_of, limit, study_of}
 use Rattle.dk_reader.specs.Steps.{study_faults}
 use Rattle.dk_reader.proofs.SoundLists.{equal_from}
@@ -87,5 +87,5 @@ module _ (d : Document) (c : Checked d) (w : AreWritten d) where
       sizes p q = omega arith
 
 -- a text without faults says a sound study
-pub study_is_sound : (text : List ℕ) (tree : Tree) → study_faults (document_of text tree) ≡ [] → IsSound (study_of (document_of text tree))
-study_is_sound text tree e = document_sound (document_of text tree) (checked (document_of text tree) e) (are_written text tree)
+pub study_is_sound : (text : List ℕ) (tree : Tree) → AreNamed (document_of text tree).fields → study_faults (document_of text tree) ≡ [] → IsSound (study_of (document_of text tree))
+study_is_sound text tree named e = document_sound (document_of text tree) (checked (document_of text tree) named e) (are_written text tree)

@@ -22,7 +22,7 @@ use Rattle.dk_reader.proofs.SoundKeywords.{among}
 pub other_one : (b : Block) (n k : Name) (fs : List Field) → is_some (first (filter (is_field b (n ∷ k ∷ [])) fs)) ≡ true → is_some (first (filter (is_field b (n ∷ [])) fs)) ≡ false →
     is_some (first (filter (is_field b (k ∷ [])) fs)) ≡ true
 other_one b n k [] some none = some
-other_one b n k (f ∷ fs) some none = by (same_block b f.block) (same_name f.name n) (same_name f.name k) some none (other_one b n k fs)
+other_one b n k (f ∷ fs) some none = by (same_block b f.block) (same_name f.entry.name n) (same_name f.entry.name k) some none (other_one b n k fs)
   where
     by : (s x y : Bool) → is_some (first (cond (s && (x || (y || false))) (f ∷ filter (is_field b (n ∷ k ∷ [])) fs) (filter (is_field b (n ∷ k ∷ [])) fs))) ≡ true →
         is_some (first (cond (s && (x || false)) (f ∷ filter (is_field b (n ∷ [])) fs) (filter (is_field b (n ∷ [])) fs))) ≡ false →
@@ -43,10 +43,10 @@ if_false P t x y e p = subst (λ s. P (if s then x else y)) (sym e) p
 -- the method's keyword, with what its method needs
 pub record HasMethod (d : Document) (m : Field) : Type 0 where
   pub is : method_field d ≡ Some m
-  pub named : is_name_in method_names m.name ≡ true
-  pub needs : list_any (lacks d) (needs_of m.name) ≡ false
-  pub bounded : (same_name m.name name.MultidimParameterStudy && not (has_bounds d)) ≡ false
-  pub searched : (same_name m.name name.CompassSearch && not (has_objective d)) ≡ false
+  pub named : is_name_in method_names m.entry.name ≡ true
+  pub needs : list_any (lacks d) (needs_of m.entry.name) ≡ false
+  pub bounded : (same_name m.entry.name name.MultidimParameterStudy && not (has_bounds d)) ≡ false
+  pub searched : (same_name m.entry.name name.CompassSearch && not (has_objective d)) ≡ false
 
 pub has_method : (d : Document) → Checked d → (m : Field) × HasMethod d m
 has_method d c =
@@ -56,12 +56,12 @@ has_method d c =
   where
     made : (m : Field) → method_field d ≡ Some m → method_faults d m ≡ [] → HasMethod d m
     made m is e =
-        let needs = wrong_if (list_any (lacks d) (needs_of m.name)) kind.Missing m.keyword in
-        let bounds = wrong_if (same_name m.name name.MultidimParameterStudy && not (has_bounds d)) kind.Missing (block_span d block.Variables) in
-        let search = wrong_if (same_name m.name name.CompassSearch && not (has_objective d)) kind.Conflict m.keyword in
+        let needs = wrong_if (list_any (lacks d) (needs_of m.entry.name)) kind.Missing m.keyword in
+        let bounds = wrong_if (same_name m.entry.name name.MultidimParameterStudy && not (has_bounds d)) kind.Missing (block_span d block.Variables) in
+        let search = wrong_if (same_name m.entry.name name.CompassSearch && not (has_objective d)) kind.Conflict m.keyword in
         let p = empty_parts (foreign_faults m d.fields) _ e in
         let q = empty_parts needs _ p.1 in
-        let r = empty_parts (both_faults d m.name) (other_block_faults d m) q.1 in
+        let r = empty_parts (both_faults d m.entry.name) (other_block_faults d m) q.1 in
         let s = empty_parts bounds search r.1 in
         record {
           is = is;
@@ -72,5 +72,5 @@ has_method d c =
         }
 
 -- the method is told by its keyword's name
-pub method_told : (d : Document) (m : Field) (n k : Name) → method_field d ≡ Some m → m.name ≡ n → method_is d k ≡ same_name n k
-method_told d m n k is named = ap (λ o. option_map_or (λ f. same_name f.name k) o false) is ∙ ap (λ x. same_name x k) named
+pub method_told : (d : Document) (m : Field) (n k : Name) → method_field d ≡ Some m → m.entry.name ≡ n → method_is d k ≡ same_name n k
+method_told d m n k is named = ap (λ o. option_map_or (λ f. same_name f.entry.name k) o false) is ∙ ap (λ x. same_name x k) named

@@ -25,10 +25,10 @@ use Rattle.dk_reader.specs.declared.document.Document.{Document}
 use Rattle.dk_reader.specs.Values.{count_of, spread, string}
 use Rattle.dk_reader.specs.Document.{fields_of, field_of, string_at, is_name_in, label_names, variable_count, response_count, parameters_name, results_name}
 use Rattle.dk_reader.specs.Study.{labels_at, numbered, default_responses, has_objectives}
-use Rattle.dk_reader.specs.Steps.{at_values, at_values_in, at_second, is_bad_label, is_empty, label_faults, twice_faults, twice_faults_in, twice_faults_of, file_names, file_faults, rules_of, uncaptured_faults, ruleless_faults, unasked_faults, same_file_faults, field_faults}
+use Rattle.dk_reader.specs.Steps.{at_values, at_values_in, at_second, is_bad_label, is_empty, label_faults, twice_faults, twice_faults_in, twice_faults_of, file_names, file_faults, rules_of, uncaptured_faults, ruleless_faults, unasked_faults, same_file_faults}
 use Rattle.dk_reader.proofs.SoundLists.{empty_parts, each_empty, unless_when, equal_from, first_has}
 use Rattle.dk_reader.proofs.SoundSteps.{Checked}
-use Rattle.dk_reader.proofs.SoundKeywords.{among, keyword, one_name, in_names, right, each_field, passes}
+use Rattle.dk_reader.proofs.SoundKeywords.{IsChecked, among, keyword, one_name, in_names, right, each_field, passes}
 use Rattle.dk_reader.proofs.SoundValues.{length_spread}
 use Rattle.dk_reader.proofs.SoundReading.{IsWritten, AreWritten}
 use Rattle.dk_reader.proofs.SoundLabels.{labels_written, length_numbered, variable_labels, function_labels, objective_labels, objective_label}
@@ -41,16 +41,16 @@ where_true false xs e t = absurd (true≢false (sym t))
 
 -- the strings of labels are labels, and none stands twice
 abbrev HasLabels : Field → Type 0
-HasLabels f = is_name_in label_names f.name ≡ true → All (λ v. is_bad_label v ≡ false) f.values × (twice_faults f.values ≡ [])
+HasLabels f = is_name_in label_names f.entry.name ≡ true → All (λ v. is_bad_label v ≡ false) f.values × (twice_faults f.values ≡ [])
 
 -- the strings of names of files aren't empty
 abbrev HasFiles : Field → Type 0
-HasFiles f = is_name_in file_names f.name ≡ true → All (λ v. is_empty v ≡ false) f.values
+HasFiles f = is_name_in file_names f.entry.name ≡ true → All (λ v. is_empty v ≡ false) f.values
 
-strings_of : (k : StudyKind) (is_bad : Value → Bool) (names : List Name) (fields : List Field) → flat_map (at_values_in k is_bad names) fields ≡ [] → All (λ f. is_name_in names f.name ≡ true → All (λ v. is_bad v ≡ false) f.values) fields
+strings_of : (k : StudyKind) (is_bad : Value → Bool) (names : List Name) (fields : List Field) → flat_map (at_values_in k is_bad names) fields ≡ [] → All (λ f. is_name_in names f.entry.name ≡ true → All (λ v. is_bad v ≡ false) f.values) fields
 strings_of k is_bad names fields e =
-    All-weaker (λ f. at_values_in k is_bad names f ≡ []) (λ f. is_name_in names f.name ≡ true → All (λ v. is_bad v ≡ false) f.values)
-    (λ f h t. passes k is_bad f.values (where_true (is_name_in names f.name) (at_values k is_bad f.values) h t))
+    All-weaker (λ f. at_values_in k is_bad names f ≡ []) (λ f. is_name_in names f.entry.name ≡ true → All (λ v. is_bad v ≡ false) f.values)
+    (λ f h t. passes k is_bad f.values (where_true (is_name_in names f.entry.name) (at_values k is_bad f.values) h t))
     fields (each_empty (at_values_in k is_bad names) fields e)
 
 each_labels : (d : Document) → Checked d → All HasLabels d.fields
@@ -76,13 +76,13 @@ HasCount k labels = AreLabels labels × (length labels ≡ k)
 
 -- labels that are written, or those by default
 labels_in : (d : Document) → Checked d → AreWritten d → (b : Block) (names : List Name) (k : ℕ) (otherwise : List (List ℕ)) → IsBetween 1 100 k → HasCount k otherwise →
-    ((f : Field) → field_faults d f ≡ [] → f.block ≡ b → is_name_in names f.name ≡ true → (is_name_in label_names f.name ≡ true) × (count_of f.values ≡ k)) → HasCount k (labels_at d b names otherwise)
+    ((f : Field) → IsChecked d f → f.block ≡ b → is_name_in names f.entry.name ≡ true → (is_name_in label_names f.entry.name ≡ true) × (count_of f.values ≡ k)) → HasCount k (labels_at d b names otherwise)
 labels_in d c w b names k otherwise size by_default one = by (first (fields_of d b names)) refl
   where
     by : (o : Option Field) → first (fields_of d b names) ≡ o → HasCount k (option_map_or (λ f. map string (spread f.values)) o otherwise)
     by None e = by_default
     by (Some f) e =
-        let at = among (λ f. field_faults d f ≡ []) d b names f e (each_field d c) in
+        let at = among (IsChecked d) d b names f e (each_field d c) in
         let is = one f at.0 at.1 at.2 in
         let labels = (among HasLabels d b names f e (each_labels d c)).0 is.0 in
         let written = (among (λ f. All IsWritten f.values) d b names f e w).0 in
@@ -94,7 +94,7 @@ variables_labelled d c w =
     labels_in d c w block.Variables (name.Descriptors ∷ []) (variable_count d) (numbered (codes "cdv_") (variable_count d)) (variables_few d c)
     (variable_labels (variable_count d) (variables_few d c), length_numbered (codes "cdv_") (variable_count d))
     (λ f h b n.
-    let is = one_name name.Descriptors f.name n in (
+    let is = one_name name.Descriptors f.entry.name n in (
       ap (is_name_in label_names) is,
       equal_from _ _ (right d f block.Variables name.Descriptors (record { name = name.Descriptors; takes = takes.Strings; count = counts.PerVariable }) h b is refl refl).count,
     ))
@@ -115,7 +115,7 @@ responses_labelled d c w =
     (by_default (response_count d) (has_objectives d) (responses_few d c))
     (λ f h b n. (
       n,
-      in_names (λ k. f.name ≡ k → count_of f.values ≡ response_count d) label_names f.name (
+      in_names (λ k. f.entry.name ≡ k → count_of f.values ≡ response_count d) label_names f.entry.name (
         λ is. equal_from _ _ (right d f block.Responses name.Descriptors (record { name = name.Descriptors; takes = takes.Strings; count = counts.PerResponse }) h b is refl refl).count,
         (λ is. equal_from _ _ (right d f block.Responses name.ResponseDescriptors (record { name = name.ResponseDescriptors; takes = takes.Strings; count = counts.PerResponse }) h b is refl refl).count, tt),
       ) n refl,

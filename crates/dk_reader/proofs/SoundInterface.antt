@@ -1,43 +1,62 @@
 -- The sizes, the driver, the files, the rule and the concurrency of a document without faults.
-use Rattle.std.proofs.Common.{◌≡◌, inr, ℕ, suc, ◌<◌, Bool, true, false, not, cond, List, [], ◌∷◌, ◌++◌, filter, length, refl, sym, arith, lit<, Option, Some, None, true≢false}
+use Rattle.std.proofs.Common.{◌≡◌, inr, ℕ, suc, ◌<◌, Bool, true, false, not, cond, List, [], ◌∷◌, ◌++◌, filter, length, refl, sym, ap, subst, IfSome, arith, lit<, Option, Some, None, true≢false}
 use Rattle.std.specs.Prelude.{◌&&◌, ◌==◌, is_some, is_none, nat_lt, option_and_then}
-use Rattle.std.specs.List.{All, list_all, slice_split, onto_first}
+use Rattle.std.specs.List.{All, AllByRecursion, list_all, slice_split, onto_first}
 use Rattle.std.specs.Option.{option_map_or}
 use Rattle.std.proofs.lemmas.Bool.{and_parts}
 use Rattle.std.proofs.lemmas.Grind.{common_steps}
 use Rattle.std.proofs.lemmas.List.Elements.{All-head}
 use Rattle.dk_types.specs.Sound.{IsBetween}
 use Rattle.dk_grammar.specs.Lists.{first}
+use Rattle.dk_grammar.specs.declared.words.Block.{Block}
 use Rattle.dk_grammar.specs.declared.words.Block.TheVariants as block
+use Rattle.dk_grammar.specs.declared.words.Name.{Name}
+use Rattle.dk_grammar.specs.declared.words.Takes.TheVariants as takes
+use Rattle.dk_grammar.specs.declared.words.Count.TheVariants as counts
 use Rattle.dk_grammar.specs.declared.words.Name.TheVariants as name
 use Rattle.dk_reader.specs.declared.fault.StudyKind.TheVariants as kind
 use Rattle.dk_reader.specs.declared.value.Value.{Value}
 use Rattle.dk_reader.specs.declared.document.Field.{Field}
 use Rattle.dk_reader.specs.declared.document.Document.{Document}
 use Rattle.dk_reader.specs.Values.{count_of, whole, string}
-use Rattle.dk_reader.specs.Document.{block_span, fields_of, field_of, has, string_at, function_names, variable_count, response_count}
+use Rattle.dk_reader.specs.Document.{AreNamed, block_span, fields_of, field_of, has, string_at, function_names, variable_count, response_count}
 use Rattle.dk_reader.specs.Study.{words_of}
-use Rattle.dk_reader.specs.Steps.{wrong_if, at_values, of_field, at_second, needed, size_faults, driver_faults, direct_faults, is_bad_whole}
+use Rattle.dk_reader.specs.Steps.{wrong_if, at_values, of_field, at_second, needed, size_faults, value_faults, driver_faults, direct_faults, is_bad_whole}
 use Rattle.dk_reader.proofs.SoundLists.{empty_parts, unless_when, not_false, equal_from}
 use Rattle.dk_reader.proofs.SoundSteps.{Checked}
-use Rattle.dk_reader.proofs.SoundKeywords.{passes}
+use Rattle.dk_reader.proofs.SoundKeywords.{among, in_names, passes}
+use Rattle.dk_reader.proofs.TableEntries.{entry_by_name, IsNamed, entry_is}
 use Rattle.dk_reader.proofs.SoundValues.{first_whole, some_counted}
 
 -- sizes
 
 -- the number that a keyword of sizes says
-size_in : (o : Option Field) → is_none o ≡ false → of_field size_faults o ≡ [] → IsBetween 1 100 (option_map_or whole (option_and_then (λ f. first f.values) o) 0)
-size_in None there e = absurd (true≢false there)
-size_in (Some f) there e =
-    let p = empty_parts (wrong_if (not (count_of f.values == 1)) kind.WrongCount f.keyword) (at_values kind.BadWhole (is_bad_whole 1 100) f.values) (empty_parts (size_faults f) [] e).0 in
+size_in : (o : Option Field) → is_none o ≡ false → IfSome o (λ f. f.entry.takes ≡ takes.Wholes 1 100) → of_field size_faults o ≡ [] →
+    IsBetween 1 100 (option_map_or whole (option_and_then (λ f. first f.values) o) 0)
+size_in None there taken e = absurd (true≢false there)
+size_in (Some f) there taken e =
+    let p = empty_parts (wrong_if (not (count_of f.values == 1)) kind.WrongCount f.keyword) (value_faults f.entry.takes f) (empty_parts (size_faults f) [] e).0 in
     let one : count_of f.values ≡ 1 = equal_from (count_of f.values) 1 (not_false _ (unless_when _ _ p.0)) in
-    first_whole 1 100 0 f.values (passes kind.BadWhole (is_bad_whole 1 100) f.values p.1) (inr (some_counted f.values one))
+    let right : at_values kind.BadWhole (is_bad_whole 1 100) f.values ≡ [] = subst (λ t. value_faults t f ≡ []) taken p.1 in
+    first_whole 1 100 0 f.values (passes kind.BadWhole (is_bad_whole 1 100) f.values right) (inr (some_counted f.values one))
+
+-- the first keyword of a block with one of these names takes whole numbers from 1 to 100, where each of the names does
+sized : (d : Document) → AreNamed d.fields → (b : Block) (names : List Name) → AllByRecursion (λ n. entry_by_name b n ≡ Some (record { name = n; takes = takes.Wholes 1 100; count = counts.One })) names →
+    IfSome (first (fields_of d b names)) (λ f. f.entry.takes ≡ takes.Wholes 1 100)
+sized d named b names entries = by (first (fields_of d b names)) refl
+  where
+    by : (o : Option Field) → first (fields_of d b names) ≡ o → IfSome o (λ f. f.entry.takes ≡ takes.Wholes 1 100)
+    by None e = tt
+    by (Some f) e =
+        let at = among IsNamed d b names f e named in
+        let entry = in_names (λ n. entry_by_name b n ≡ Some (record { name = n; takes = takes.Wholes 1 100; count = counts.One })) names f.entry.name entries at.2 in
+        ap (λ x. x.takes) (entry_is f b f.entry.name (record { name = f.entry.name; takes = takes.Wholes 1 100; count = counts.One }) at.0 at.1 refl entry)
 
 -- there are 1 to 100 variables
 pub variables_few : (d : Document) → Checked d → IsBetween 1 100 (variable_count d)
 variables_few d c =
     let p = empty_parts (needed d block.Variables name.ContinuousDesign) (of_field size_faults (field_of d block.Variables name.ContinuousDesign)) c.variables in
-    size_in (field_of d block.Variables name.ContinuousDesign) (unless_when _ _ p.0) p.1
+    size_in (field_of d block.Variables name.ContinuousDesign) (unless_when _ _ p.0) (sized d c.named block.Variables (name.ContinuousDesign ∷ []) (refl, tt)) p.1
 
 -- and 1 to 100 responses
 pub responses_few : (d : Document) → Checked d → IsBetween 1 100 (response_count d)
@@ -45,7 +64,7 @@ responses_few d c =
     let fields = fields_of d block.Responses function_names in
     let p = empty_parts (wrong_if (is_none (first fields)) kind.Missing (block_span d block.Responses) ++ at_second kind.Conflict fields) (of_field size_faults (first fields)) c.responses in
     let q = empty_parts (wrong_if (is_none (first fields)) kind.Missing (block_span d block.Responses)) (at_second kind.Conflict fields) p.0 in
-    size_in (first fields) (unless_when _ _ q.0) p.1
+    size_in (first fields) (unless_when _ _ q.0) (sized d c.named block.Responses function_names (refl, (refl, tt))) p.1
 
 -- words
 

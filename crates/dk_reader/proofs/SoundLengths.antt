@@ -15,8 +15,7 @@ use Rattle.dk_num.specs.Units.{units_of}
 use Rattle.dk_num.proofs.Endings.{ten_some}
 use Rattle.dk_num.proofs.Values.{scaled_none}
 use Rattle.dk_types.specs.Sound.{IsNumber, IsLength}
-use Rattle.dk_grammar.specs.Meanings.{entry_of}
-use Rattle.dk_grammar.specs.Words.{word_of}
+use Rattle.dk_reader.proofs.TableEntries.{entry_by_name}
 use Rattle.dk_grammar.specs.declared.words.Block.TheVariants as block
 use Rattle.dk_grammar.specs.declared.words.Name.{Name}
 use Rattle.dk_grammar.specs.declared.words.Takes.TheVariants as takes
@@ -28,10 +27,10 @@ use Rattle.dk_reader.specs.declared.document.Document.{Document}
 use Rattle.dk_reader.specs.Values.{spread, number}
 use Rattle.dk_reader.specs.Document.{field_of, has, values_at, is_name_in}
 use Rattle.dk_reader.specs.Study.{written_values, unit_exponent, units_at, unit_at}
-use Rattle.dk_reader.specs.Steps.{checked_names, delta_names, is_above, is_good_number, field_faults}
+use Rattle.dk_reader.specs.Steps.{checked_names, delta_names, is_above, is_good_number}
 use Rattle.dk_reader.proofs.SoundLists.{equal_from, some_value, first_has, first_some}
 use Rattle.dk_reader.proofs.SoundSteps.{Checked}
-use Rattle.dk_reader.proofs.SoundKeywords.{keyword, right, each_field, passes}
+use Rattle.dk_reader.proofs.SoundKeywords.{IsChecked, keyword, right, each_field, passes}
 use Rattle.dk_reader.proofs.SoundUnits.{HasNumber, numbers_in, numbers_good}
 use Rattle.dk_reader.proofs.SoundReading.{AreWritten}
 use Rattle.dk_reader.proofs.SoundValues.{units_in, each_number, written_at, length_units, right_count, spread_all}
@@ -75,7 +74,7 @@ above_zero x h = positive_factor x.mantissa _ (whole_value zero_decimal) (scaled
 
 module _ (d : Document) (c : Checked d) (w : AreWritten d) where
   -- the numbers of a keyword of lengths are above 0
-  above_at : (n : Name) → is_name_in delta_names n ≡ true → is_name_in checked_names n ≡ false → entry_of block.Method (word_of n) ≡ Some (record { name = n; takes = takes.Numbers; count = counts.One }) →
+  above_at : (n : Name) → is_name_in delta_names n ≡ true → is_name_in checked_names n ≡ false → entry_by_name block.Method n ≡ Some (record { name = n; takes = takes.Numbers; count = counts.One }) →
       All (HasNumber (λ x. is_above x zero_decimal)) (values_at d block.Method n)
   above_at n delta other entry = by (field_of d block.Method n) refl
     where
@@ -86,20 +85,20 @@ module _ (d : Document) (c : Checked d) (w : AreWritten d) where
       by : (o : Option Field) → field_of d block.Method n ≡ o → All (HasNumber (λ x. is_above x zero_decimal)) (option_map_or (λ f. f.values) o [])
       by None e = All-nil (HasNumber (λ x. is_above x zero_decimal))
       by (Some f) e =
-          let at = keyword (λ f. field_faults d f ≡ []) d block.Method n f e (each_field d c) in
+          let at = keyword (IsChecked d) d block.Method n f e (each_field d c) in
           let is = right d f block.Method n (record { name = n; takes = takes.Numbers; count = counts.One }) at.0 at.1 at.2 other entry in
-          All-weaker (HasNumber (is_good_number f.block f.name)) (HasNumber (λ x. is_above x zero_decimal))
-          (λ v g. (g.0, g.1, good (is_name_in delta_names f.name) g.0 (ap (is_name_in delta_names) at.2 ∙ delta) (and_parts _ _ g.2).1)) f.values (numbers_good f is.values)
+          All-weaker (HasNumber (is_good_number f.block f.entry.name)) (HasNumber (λ x. is_above x zero_decimal))
+          (λ v g. (g.0, g.1, good (is_name_in delta_names f.entry.name) g.0 (ap (is_name_in delta_names) at.2 ∙ delta) (and_parts _ _ g.2).1)) f.values (numbers_good f is.values)
 
   -- a length is a number of units above 0
   pub length_at : (n : Name) → has d block.Method n ≡ true → is_name_in delta_names n ≡ true → numbers_in block.Method n ≡ true → is_name_in checked_names n ≡ false →
-      entry_of block.Method (word_of n) ≡ Some (record { name = n; takes = takes.Numbers; count = counts.One }) → IsLength (unit_exponent d) (unit_at d n)
+      entry_by_name block.Method n ≡ Some (record { name = n; takes = takes.Numbers; count = counts.One }) → IsLength (unit_exponent d) (unit_at d n)
   length_at n there delta numbers other entry =
       let e = unit_exponent d in
       let each : All (λ v. IsLength e (units_in e v)) (values_at d block.Method n) = λ k v lt. one (get_or (values_at d block.Method n) k v)
-      (written_at (λ v. IsNumber e (units_in e v)) d block.Method n (each_number d c w) refl numbers k v lt)
+      (written_at (λ v. IsNumber e (units_in e v)) d c.named block.Method n (each_number d c w) refl numbers k v lt)
       (above_at n delta other entry k v lt)
-      (written_at (λ v. is_none (units_of e (number v)) ≡ false) d block.Method n (passes kind.OffGrid (λ v. is_none (units_of e (number v))) (written_values d) c.units) refl numbers k v lt) in
+      (written_at (λ v. is_none (units_of e (number v)) ≡ false) d c.named block.Method n (passes kind.OffGrid (λ v. is_none (units_of e (number v))) (written_values d) c.units) refl numbers k v lt) in
       let all : All (IsLength e) (units_at d block.Method n) = All-map (IsLength e) (units_in e) (spread (values_at d block.Method n)) (spread_all (λ v. IsLength e (units_in e v)) (values_at d block.Method n) each) in
       let many : length (units_at d block.Method n) ≡ 1
       = length_units d block.Method n ∙ equal_from _ 1 (right_count d c block.Method n (record { name = n; takes = takes.Numbers; count = counts.One }) there other entry) in

@@ -8,8 +8,7 @@ use Rattle.std.proofs.lemmas.List.{length-map, length-replicate}
 use Rattle.std.proofs.lemmas.List.Elements.{All-head, All-weaker, All-map, All-replicate}
 use Rattle.dk_types.specs.declared.study.Way.TheVariants.{Step, Final}
 use Rattle.dk_types.specs.Sound.{IsBetween, IsNumber, IsPoint, IsBound, AreCounts, ArePoints, IsWay}
-use Rattle.dk_grammar.specs.Meanings.{entry_of}
-use Rattle.dk_grammar.specs.Words.{word_of}
+use Rattle.dk_reader.proofs.TableEntries.{entry_by_name}
 use Rattle.dk_grammar.specs.declared.words.Block.{Block}
 use Rattle.dk_grammar.specs.declared.words.Block.TheVariants as block
 use Rattle.dk_grammar.specs.declared.words.Name.{Name}
@@ -33,7 +32,7 @@ use Rattle.dk_reader.proofs.SoundInterface.{variables_few}
 module _ (d : Document) (c : Checked d) (w : AreWritten d) where
   -- a keyword that takes one number for each variable says a point
   pub point_at : (b : Block) (n : Name) → has d b n ≡ true → is_measured b ≡ true → numbers_in b n ≡ true → is_name_in checked_names n ≡ false →
-      entry_of b (word_of n) ≡ Some (record { name = n; takes = takes.Numbers; count = counts.PerVariable }) → IsPoint (unit_exponent d) (variable_count d) (units_at d b n)
+      entry_by_name b n ≡ Some (record { name = n; takes = takes.Numbers; count = counts.PerVariable }) → IsPoint (unit_exponent d) (variable_count d) (units_at d b n)
   point_at b n there measured numbers other entry = record {
     one_each = length_units d b n ∙ equal_from (count_of (values_at d b n)) (variable_count d) (right_count d c b n (record { name = n; takes = takes.Numbers; count = counts.PerVariable }) there other entry);
     each = numbers_at d c w b n measured numbers;
@@ -41,7 +40,7 @@ module _ (d : Document) (c : Checked d) (w : AreWritten d) where
 
   -- bounds, where they are written
   pub bound_at : (n : Name) → numbers_in block.Variables n ≡ true → is_name_in checked_names n ≡ false →
-      entry_of block.Variables (word_of n) ≡ Some (record { name = n; takes = takes.Numbers; count = counts.PerVariable }) → IsBound (unit_exponent d) (variable_count d) (units_if d n)
+      entry_by_name block.Variables n ≡ Some (record { name = n; takes = takes.Numbers; count = counts.PerVariable }) → IsBound (unit_exponent d) (variable_count d) (units_if d n)
   bound_at n numbers other entry = by (has d block.Variables n) refl
     where
       by : (t : Bool) → has d block.Variables n ≡ t → IsBound (unit_exponent d) (variable_count d) (if t then Some (units_at d block.Variables n) else None)
@@ -91,7 +90,7 @@ module _ (d : Document) (c : Checked d) (w : AreWritten d) where
           by_none false t e = equal_from (n % k) 0 e
 
   -- counts of a keyword are in its range
-  counts_in : (n : Name) (low high : ℕ) (k : Count) → is_name_in checked_names n ≡ false → entry_of block.Method (word_of n) ≡ Some (record { name = n; takes = takes.Wholes low high; count = k }) →
+  counts_in : (n : Name) (low high : ℕ) (k : Count) → is_name_in checked_names n ≡ false → entry_by_name block.Method n ≡ Some (record { name = n; takes = takes.Wholes low high; count = k }) →
       All (IsBetween low high) (counts_at d n)
   counts_in n low high k other entry =
       All-map (IsBetween low high) whole (spread (values_at d block.Method n)) (All-weaker (λ v. is_bad_whole low high v ≡ false) (λ v. IsBetween low high (whole v)) (between low high) (spread (values_at d block.Method n))

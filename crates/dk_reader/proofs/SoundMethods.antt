@@ -61,10 +61,10 @@ module _ (d : Document) (c : Checked d) (w : AreWritten d) where
   labelled = (variables_labelled d c w).1
 
   -- none of what a method needs is missing
-  needs : (m : Field) (n : Name) → HasMethod d m → m.name ≡ n → list_any (lacks d) (needs_of n) ≡ false
+  needs : (m : Field) (n : Name) → HasMethod d m → m.entry.name ≡ n → list_any (lacks d) (needs_of n) ≡ false
   needs m n h e = subst (λ k. list_any (lacks d) (needs_of k) ≡ false) e h.needs
 
-  vector : (m : Field) → HasMethod d m → m.name ≡ name.VectorParameterStudy → Sound (method_of d)
+  vector : (m : Field) → HasMethod d m → m.entry.name ≡ name.VectorParameterStudy → Sound (method_of d)
   vector m h e =
       let p = or_parts (is_none (field_of d block.Method name.NumSteps)) _ (needs m name.VectorParameterStudy h e) in
       let q = or_parts (is_none (first (fields_of d block.Method (name.StepVector ∷ (name.FinalPoint ∷ []))))) false p.1 in
@@ -72,7 +72,7 @@ module _ (d : Document) (c : Checked d) (w : AreWritten d) where
       if_true Sound (method_is d name.VectorParameterStudy) (vector_of d) (second_of d) (method_told d m name.VectorParameterStudy name.VectorParameterStudy h.is e)
       (count.1, subst (λ n. IsWay (unit_exponent d) n (way_of d)) (sym labelled) (way d c w (other_one block.Method name.StepVector name.FinalPoint d.fields (not_false _ q.0))))
 
-  list : (m : Field) → HasMethod d m → m.name ≡ name.ListParameterStudy → Sound (method_of d)
+  list : (m : Field) → HasMethod d m → m.entry.name ≡ name.ListParameterStudy → Sound (method_of d)
   list m h e =
       let n = name.ListParameterStudy in
       let p = or_parts (is_none (field_of d block.Method name.ListOfPoints)) false (needs m n h e) in
@@ -80,7 +80,7 @@ module _ (d : Document) (c : Checked d) (w : AreWritten d) where
       (if_true Sound (method_is d n) (list_of d) (third_of d) (method_told d m n n h.is e)
       (subst (λ k. ArePoints (unit_exponent d) k (units_at d block.Method name.ListOfPoints)) (sym labelled) (points d c w (not_false _ p.0))))
 
-  centered : (m : Field) → HasMethod d m → m.name ≡ name.CenteredParameterStudy → Sound (method_of d)
+  centered : (m : Field) → HasMethod d m → m.entry.name ≡ name.CenteredParameterStudy → Sound (method_of d)
   centered m h e =
       let n = name.CenteredParameterStudy in
       let p = or_parts (is_none (field_of d block.Method name.StepVector)) _ (needs m n h e) in
@@ -96,7 +96,7 @@ module _ (d : Document) (c : Checked d) (w : AreWritten d) where
   bounds_there : (n : Name) → has d block.Variables n ≡ true → (ks : List _) × (units_if d n ≡ Some ks)
   bounds_there n e = (units_at d block.Variables n, ap (λ t. if t then Some (units_at d block.Variables n) else None) e)
 
-  multidim : (m : Field) → HasMethod d m → m.name ≡ name.MultidimParameterStudy → Sound (method_of d)
+  multidim : (m : Field) → HasMethod d m → m.entry.name ≡ name.MultidimParameterStudy → Sound (method_of d)
   multidim m h e =
       let n = name.MultidimParameterStudy in
       let p = or_parts (is_none (field_of d block.Method name.Partitions)) false (needs m n h e) in
@@ -112,7 +112,7 @@ module _ (d : Document) (c : Checked d) (w : AreWritten d) where
         bounds_there name.UpperBounds both.1,
       ))))
 
-  compass : (m : Field) → HasMethod d m → m.name ≡ name.CompassSearch → Sound (method_of d)
+  compass : (m : Field) → HasMethod d m → m.entry.name ≡ name.CompassSearch → Sound (method_of d)
   compass m h e =
       let n = name.CompassSearch in
       let p = or_parts (is_none (field_of d block.Method name.InitialDelta)) _ (needs m n h e) in
@@ -139,4 +139,4 @@ module _ (d : Document) (c : Checked d) (w : AreWritten d) where
   method_sound = let m = has_method d c in by m.0 m.1
     where
       by : (m : Field) → HasMethod d m → Sound (method_of d)
-      by m h = in_names (λ k. m.name ≡ k → Sound (method_of d)) method_names m.name (vector m h, (list m h, (centered m h, (multidim m h, (compass m h, tt))))) h.named refl
+      by m h = in_names (λ k. m.entry.name ≡ k → Sound (method_of d)) method_names m.entry.name (vector m h, (list m h, (centered m h, (multidim m h, (compass m h, tt))))) h.named refl

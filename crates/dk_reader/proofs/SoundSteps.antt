@@ -5,13 +5,14 @@ use Rattle.std.proofs.lemmas.Bool.{or_parts}
 use Rattle.std.proofs.lemmas.Grind.{common_steps}
 use Rattle.dk_reader.specs.declared.fault.StudyKind.TheVariants as kind
 use Rattle.dk_reader.specs.declared.document.Document.{Document}
-use Rattle.dk_reader.specs.Document.{variable_count, response_count}
+use Rattle.dk_reader.specs.Document.{AreNamed, variable_count, response_count}
 use Rattle.dk_reader.specs.Study.{limit}
 use Rattle.dk_reader.specs.Steps.{wrong_if, study_faults, step1, step2, step3, step4, step5, step6, step7, step8, step9, step10, step11, step12}
 use Rattle.dk_reader.proofs.SoundLists.{empty_parts, unless_when}
 
--- no step has a fault
+-- each keyword has its own entry of the table, and no step has a fault
 pub record Checked (d : Document) : Type 0 where
+  pub named : AreNamed d.fields
   pub method : step1 d ≡ []
   pub variables : step2 d ≡ []
   pub responses : step3 d ≡ []
@@ -34,11 +35,11 @@ twelve a b c e f g h i j k l m z =
     (pa.0, pb.0, pc.0, pe.0, pf.0, pg.0, ph.0, pi.0, pj.0, pk.0, pl.0, pm.0)
 
 -- a document without faults has none in any step
-pub checked : (d : Document) → study_faults d ≡ [] → Checked d
+pub checked : (d : Document) → AreNamed d.fields → study_faults d ≡ [] → Checked d
 unfolding study_faults
-checked d e =
+checked d named e =
     let p = twelve (step1 d) (step2 d) (step3 d) (step4 d) (step5 d) (step6 d) (step7 d) (step8 d) (step9 d) (step10 d) (step11 d) (step12 d) e in
-    record { method = p.0; variables = p.1; responses = p.2; driver = p.3; values = p.4; labels = p.5; keywords = p.6; rules = p.7; bounds = p.8; size = p.9; units = p.10; table = p.11 }
+    record { named = named; method = p.0; variables = p.1; responses = p.2; driver = p.3; values = p.4; labels = p.5; keywords = p.6; rules = p.7; bounds = p.8; size = p.9; units = p.10; table = p.11 }
 
 small : (low n : ℕ) → nat_lt low n ≡ false → n ≤ low
 small low n e = grind (arith, common_steps)

@@ -6,9 +6,7 @@ use Rattle.std.specs.Option.{option_map_or}
 use Rattle.std.proofs.lemmas.Bool.{and_parts}
 use Rattle.std.proofs.lemmas.Int.{ints}
 use Rattle.std.proofs.lemmas.List.Elements.{All-nil, All-head, All-tail, All-weaker}
-use Rattle.dk_grammar.specs.Meanings.{entry_of}
-use Rattle.dk_grammar.specs.Words.{word_of}
-use Rattle.dk_grammar.specs.declared.words.Entry.{Entry}
+use Rattle.dk_reader.proofs.TableEntries.{entry_by_name, IsNamed, computed}
 use Rattle.dk_grammar.specs.declared.words.Block.{Block}
 use Rattle.dk_grammar.specs.declared.words.Block.TheVariants as block
 use Rattle.dk_grammar.specs.declared.words.Name.{Name}
@@ -24,12 +22,12 @@ use Rattle.dk_reader.specs.declared.value.Value.{Value}
 use Rattle.dk_reader.specs.declared.document.Field.{Field}
 use Rattle.dk_reader.specs.declared.document.Document.{Document}
 use Rattle.dk_reader.specs.Values.{number}
-use Rattle.dk_reader.specs.Document.{is_name_in}
-use Rattle.dk_reader.specs.Study.{is_measured, is_numbers, entry_of_field, takes_numbers, written_values, unit_exponent}
-use Rattle.dk_reader.specs.Steps.{step5, field_faults, value_faults, copies_faults, bad_number_faults, checked_names, is_good_number, is_bad_number}
-use Rattle.dk_reader.proofs.SoundLists.{empty_parts, each_empty, all_parts}
+use Rattle.dk_reader.specs.Document.{AreNamed, is_name_in}
+use Rattle.dk_reader.specs.Study.{is_measured, is_numbers, takes_numbers, written_values, unit_exponent}
+use Rattle.dk_reader.specs.Steps.{step5, value_faults, copies_faults, bad_number_faults, checked_names, is_good_number, is_bad_number}
+use Rattle.dk_reader.proofs.SoundLists.{empty_parts, all_parts}
 use Rattle.dk_reader.proofs.SoundSteps.{Checked}
-use Rattle.dk_reader.proofs.SoundKeywords.{in_names, right, passes}
+use Rattle.dk_reader.proofs.SoundKeywords.{IsChecked, each_checked, in_names, right, passes}
 
 -- the value has a number that passes
 abbrev pub HasNumber : (Decimal → Bool) → Value → Type 0
@@ -44,15 +42,15 @@ good_number p (Some x) e = by (p x) refl e
     by false t e = absurd (true≢false e)
 
 -- the values of a keyword that takes numbers are good numbers
-pub numbers_good : (f : Field) → value_faults takes.Numbers f ≡ [] → All (HasNumber (is_good_number f.block f.name)) f.values
+pub numbers_good : (f : Field) → value_faults takes.Numbers f ≡ [] → All (HasNumber (is_good_number f.block f.entry.name)) f.values
 numbers_good f e =
     let p = empty_parts (copies_faults f) (bad_number_faults f) e in
-    All-weaker (λ v. is_bad_number f.block f.name v ≡ false) (HasNumber (is_good_number f.block f.name)) (λ v h. good_number (is_good_number f.block f.name) v.number h)
-    f.values (passes kind.BadNumber (is_bad_number f.block f.name) f.values p.1)
+    All-weaker (λ v. is_bad_number f.block f.entry.name v ≡ false) (HasNumber (is_good_number f.block f.entry.name)) (λ v h. good_number (is_good_number f.block f.entry.name) v.number h)
+    f.values (passes kind.BadNumber (is_bad_number f.block f.entry.name) f.values p.1)
 
 -- a keyword of this block and name takes numbers
 abbrev pub numbers_in : Block → Name → Bool
-numbers_in b n = option_map_or (λ e. is_numbers e.takes) (entry_of b (word_of n)) false
+numbers_in b n = option_map_or (λ e. is_numbers e.takes) (entry_by_name b n) false
 
 each_block : (P : Block → Type 0) → P block.Environment → P block.Method → P block.Model → P block.Variables → P block.Interface → P block.Responses → (b : Block) → P b
 each_block P e m o v i r block.Environment = e
@@ -90,27 +88,29 @@ moderate b n x m h = by (is_measured b) m (and_parts _ _ h).0
     by true t h = h
     by false t h = absurd (true≢false (sym t))
 
+-- a keyword takes numbers where its block and name do
+pub takes_in : (f : Field) → IsNamed f → takes_numbers f ≡ numbers_in f.block f.entry.name
+takes_in f named = sym (ap (λ o. option_map_or (λ e. is_numbers e.takes) o false) (computed f named))
+
 -- a keyword that takes numbers has right values
-numbers_right : (d : Document) (f : Field) → field_faults d f ≡ [] → takes_numbers f ≡ true → value_faults takes.Numbers f ≡ []
-unfolding entry_of_field
-numbers_right d f h t = by (is_name_in checked_names f.name) refl (entry_of f.block (word_of f.name)) refl t
+numbers_right : (d : Document) (f : Field) → IsChecked d f → takes_numbers f ≡ true → value_faults takes.Numbers f ≡ []
+numbers_right d f h t = by (is_name_in checked_names f.entry.name) refl
   where
-    by : (c : Bool) → is_name_in checked_names f.name ≡ c → (o : Option Entry) → entry_of f.block (word_of f.name) ≡ o → option_map_or (λ e. is_numbers e.takes) o false ≡ true → value_faults takes.Numbers f ≡ []
-    by true c o e t = absurd (true≢false (sym (ap (λ p. option_map_or (λ e. is_numbers e.takes) p false) e ∙ t) ∙ no_numbers f.block f.name c))
-    by false c None e t = absurd (true≢false (sym t))
-    by false c (Some k) e t = subst (λ x. value_faults x f ≡ []) (takes_is k.takes t) (right d f f.block f.name k h refl refl c e).values
+    by : (c : Bool) → is_name_in checked_names f.entry.name ≡ c → value_faults takes.Numbers f ≡ []
+    by true c = absurd (true≢false (sym t ∙ takes_in f h.named ∙ no_numbers f.block f.entry.name c))
+    by false c = subst (λ x. value_faults x f ≡ []) (takes_is f.entry.takes t) (right d f f.block f.entry.name f.entry h refl refl c (computed f h.named)).values
 
 -- the number values of variables and method are moderate
-pub each_moderate : (d : Document) → step5 d ≡ [] → All (HasNumber is_moderate) (written_values d)
-each_moderate d values =
+pub each_moderate : (d : Document) → AreNamed d.fields → step5 d ≡ [] → All (HasNumber is_moderate) (written_values d)
+each_moderate d named values =
     all_parts (HasNumber is_moderate) (λ f. if is_measured f.block && takes_numbers f then f.values else []) d.fields
-    (All-weaker (λ f. field_faults d f ≡ []) (λ f. All (HasNumber is_moderate) (if is_measured f.block && takes_numbers f then f.values else [])) one d.fields (each_empty (field_faults d) d.fields values))
+    (All-weaker (IsChecked d) (λ f. All (HasNumber is_moderate) (if is_measured f.block && takes_numbers f then f.values else [])) one d.fields (each_checked d named values))
   where
-    one : (f : Field) → field_faults d f ≡ [] → All (HasNumber is_moderate) (if is_measured f.block && takes_numbers f then f.values else [])
+    one : (f : Field) → IsChecked d f → All (HasNumber is_moderate) (if is_measured f.block && takes_numbers f then f.values else [])
     one f h = by (is_measured f.block) refl (takes_numbers f) refl
       where
         by : (m : Bool) → is_measured f.block ≡ m → (t : Bool) → takes_numbers f ≡ t → All (HasNumber is_moderate) (if m && t then f.values else [])
-        by true m true t = All-weaker (HasNumber (is_good_number f.block f.name)) (HasNumber is_moderate) (λ v g. (g.0, g.1, moderate f.block f.name g.0 m g.2))
+        by true m true t = All-weaker (HasNumber (is_good_number f.block f.entry.name)) (HasNumber is_moderate) (λ v g. (g.0, g.1, moderate f.block f.entry.name g.0 m g.2))
             f.values (numbers_good f (numbers_right d f h t))
         by true m false t = All-nil (HasNumber is_moderate)
         by false m t u = All-nil (HasNumber is_moderate)
@@ -122,8 +122,8 @@ numbers_moderate (v ∷ vs) h =
     let is : number v ≡ at.0 = ap (λ o. unwrap_or o zero_decimal) at.1 in
     (subst (λ x. IsTrue (is_moderate x)) (sym is) at.2, numbers_moderate vs (All-tail (HasNumber is_moderate) v vs h))
 
-pub are_moderate : (d : Document) → step5 d ≡ [] → AreModerate (map number (written_values d))
-are_moderate d values = numbers_moderate (written_values d) (each_moderate d values)
+pub are_moderate : (d : Document) → AreNamed d.fields → step5 d ≡ [] → AreModerate (map number (written_values d))
+are_moderate d named values = numbers_moderate (written_values d) (each_moderate d named values)
 
 -- they are within the digits of their unit
 pub are_within : (d : Document) → AreWithin (unit_exponent d) (map number (written_values d))
@@ -137,4 +137,4 @@ unit_near ds h = by (greatest_leading ds) (greatest_moderate ds h)
     by (Some g) h = (omega (arith, ints), omega (arith, ints))
 
 pub is_unit : (d : Document) → Checked d → IsUnitExponent (unit_exponent d)
-is_unit d c = unit_near (map number (written_values d)) (are_moderate d c.values)
+is_unit d c = unit_near (map number (written_values d)) (are_moderate d c.named c.values)

@@ -12,8 +12,7 @@ use Rattle.dk_num.specs.Decimal.{IsCanonical, zero_decimal}
 use Rattle.dk_num.specs.Units.{IsUnitExponent, is_moderate, AreWithin, units_of}
 use Rattle.dk_types.specs.Sound.{IsBetween, IsNumber}
 use Rattle.dk_grammar.specs.Lists.{first}
-use Rattle.dk_grammar.specs.Meanings.{entry_of}
-use Rattle.dk_grammar.specs.Words.{word_of}
+use Rattle.dk_reader.proofs.TableEntries.{entry_by_name, IsNamed}
 use Rattle.dk_grammar.specs.declared.words.Block.{Block}
 use Rattle.dk_grammar.specs.declared.words.Name.{Name}
 use Rattle.dk_grammar.specs.declared.words.Entry.{Entry}
@@ -24,13 +23,13 @@ use Rattle.dk_reader.specs.declared.value.Value.{Value}
 use Rattle.dk_reader.specs.declared.document.Field.{Field}
 use Rattle.dk_reader.specs.declared.document.Document.{Document}
 use Rattle.dk_reader.specs.Values.{count, count_of, spread, whole, number}
-use Rattle.dk_reader.specs.Document.{field_of, has, values_at, whole_at, is_name_in, variable_count, response_count}
-use Rattle.dk_reader.specs.Study.{is_measured, entry_of_field, takes_numbers, written_values, unit_exponent, units_at}
+use Rattle.dk_reader.specs.Document.{AreNamed, field_of, has, values_at, whole_at, is_name_in, variable_count, response_count}
+use Rattle.dk_reader.specs.Study.{is_measured, takes_numbers, written_values, unit_exponent, units_at}
 use Rattle.dk_reader.specs.Steps.{checked_names, is_bad_whole, is_right_count}
 use Rattle.dk_reader.proofs.SoundLists.{not_false, each_part, all_parts, some_value}
 use Rattle.dk_reader.proofs.SoundSteps.{Checked}
 use Rattle.dk_reader.proofs.SoundKeywords.{keyword, right_keyword, passes}
-use Rattle.dk_reader.proofs.SoundUnits.{HasNumber, numbers_in, each_moderate, are_within, is_unit}
+use Rattle.dk_reader.proofs.SoundUnits.{HasNumber, numbers_in, takes_in, each_moderate, are_within, is_unit}
 use Rattle.dk_reader.proofs.SoundReading.{IsWritten, AreWritten}
 use Rattle.dk_reader.proofs.SoundPoints.{number_in}
 
@@ -96,21 +95,21 @@ numbers_of e (v ∷ vs) near moderate written within some =
     (numbers_of e vs near (All-tail (HasNumber is_moderate) v vs moderate) (All-tail IsWritten v vs written) within.1 (All-tail (λ v. is_none (units_of e (number v)) ≡ false) v vs some))
 
 -- what holds of all written numbers holds of those of each keyword
-pub written_at : (P : Value → Type 0) (d : Document) (b : Block) (n : Name) → All P (written_values d) → is_measured b ≡ true → numbers_in b n ≡ true → All P (values_at d b n)
-unfolding entry_of_field
-written_at P d b n h measured numbers = by (field_of d b n) refl
+pub written_at : (P : Value → Type 0) (d : Document) → AreNamed d.fields → (b : Block) (n : Name) → All P (written_values d) → is_measured b ≡ true → numbers_in b n ≡ true → All P (values_at d b n)
+written_at P d names b n h measured numbers = by (field_of d b n) refl
   where
     by : (o : Option Field) → field_of d b n ≡ o → All P (option_map_or (λ f. f.values) o [])
     by None e = All-nil P
     by (Some f) e =
         let at = keyword (λ f. All P (if is_measured f.block && takes_numbers f then f.values else [])) d b n f e (each_part P (λ f. if is_measured f.block && takes_numbers f then f.values else []) d.fields h) in
-        let test : (is_measured f.block && takes_numbers f) ≡ true = and_from _ _ (ap is_measured at.1 ∙ measured) (ap₂ numbers_in at.1 at.2 ∙ numbers) in
+        let named = (keyword IsNamed d b n f e names).0 in
+        let test : (is_measured f.block && takes_numbers f) ≡ true = and_from _ _ (ap is_measured at.1 ∙ measured) (takes_in f named ∙ ap₂ numbers_in at.1 at.2 ∙ numbers) in
         subst (λ t. All P (if t then f.values else [])) test at.0
 
 -- all written numbers are numbers of the unit
 pub each_number : (d : Document) → Checked d → AreWritten d → All (λ v. IsNumber (unit_exponent d) (units_in (unit_exponent d) v)) (written_values d)
 each_number d c w =
-    numbers_of (unit_exponent d) (written_values d) (is_unit d c) (each_moderate d c.values)
+    numbers_of (unit_exponent d) (written_values d) (is_unit d c) (each_moderate d c.named c.values)
     (all_parts IsWritten (λ f. if is_measured f.block && takes_numbers f then f.values else []) d.fields (All-weaker (λ f. All IsWritten f.values) (λ f. All IsWritten (if is_measured f.block && takes_numbers f then f.values else [])) (λ f h. kept (is_measured f.block && takes_numbers f) f.values h) d.fields w))
     (are_within d) (passes kind.OffGrid (λ v. is_none (units_of (unit_exponent d) (number v))) (written_values d) c.units)
   where
@@ -123,13 +122,13 @@ pub numbers_at : (d : Document) → Checked d → AreWritten d → (b : Block) (
 numbers_at d c w b n measured numbers =
     All-map (IsNumber (unit_exponent d)) (units_in (unit_exponent d)) (spread (values_at d b n))
     (spread_all (λ v. IsNumber (unit_exponent d) (units_in (unit_exponent d) v)) (values_at d b n)
-    (written_at (λ v. IsNumber (unit_exponent d) (units_in (unit_exponent d) v)) d b n (each_number d c w) measured numbers))
+    (written_at (λ v. IsNumber (unit_exponent d) (units_in (unit_exponent d) v)) d c.named b n (each_number d c w) measured numbers))
 
 pub length_units : (d : Document) (b : Block) (n : Name) → length (units_at d b n) ≡ count_of (values_at d b n)
 length_units d b n = length-map (spread (values_at d b n)) (units_in (unit_exponent d)) ∙ length_spread (values_at d b n)
 
 -- a keyword that is there has so many values as its entry says
-pub right_count : (d : Document) → Checked d → (b : Block) (n : Name) (e : Entry) → has d b n ≡ true → is_name_in checked_names n ≡ false → entry_of b (word_of n) ≡ Some e →
+pub right_count : (d : Document) → Checked d → (b : Block) (n : Name) (e : Entry) → has d b n ≡ true → is_name_in checked_names n ≡ false → entry_by_name b n ≡ Some e →
     is_right_count (variable_count d) (response_count d) e.count (count_of (values_at d b n)) ≡ true
 right_count d c b n e there other entry = by (field_of d b n) refl there
   where
@@ -138,7 +137,7 @@ right_count d c b n e there other entry = by (field_of d b n) refl there
     by (Some f) at there = (right_keyword d c b n e f at other entry).count
 
 -- whole numbers of a keyword are in its range
-pub wholes_at : (d : Document) → Checked d → (b : Block) (n : Name) (low high : ℕ) (k : Count) → is_name_in checked_names n ≡ false → entry_of b (word_of n) ≡ Some (record { name = n; takes = takes.Wholes low high; count = k }) →
+pub wholes_at : (d : Document) → Checked d → (b : Block) (n : Name) (low high : ℕ) (k : Count) → is_name_in checked_names n ≡ false → entry_by_name b n ≡ Some (record { name = n; takes = takes.Wholes low high; count = k }) →
     All (λ v. is_bad_whole low high v ≡ false) (values_at d b n)
 wholes_at d c b n low high k other entry = by (field_of d b n) refl
   where
@@ -148,7 +147,7 @@ wholes_at d c b n low high k other entry = by (field_of d b n) refl
 
 -- the first of them, or a number in the range
 pub whole_in : (d : Document) → Checked d → (b : Block) (n : Name) (low high : ℕ) (k : Count) (otherwise : ℕ) → is_name_in checked_names n ≡ false →
-    entry_of b (word_of n) ≡ Some (record { name = n; takes = takes.Wholes low high; count = k }) → IsBetween low high otherwise ⊎ (length (values_at d b n) ≡ 0 → ⊥) → IsBetween low high (whole_at d b n otherwise)
+    entry_by_name b n ≡ Some (record { name = n; takes = takes.Wholes low high; count = k }) → IsBetween low high otherwise ⊎ (length (values_at d b n) ≡ 0 → ⊥) → IsBetween low high (whole_at d b n otherwise)
 whole_in d c b n low high k otherwise other entry is =
     subst (IsBetween low high) (by (field_of d b n)) (first_whole low high otherwise (values_at d b n) (wholes_at d c b n low high k other entry) is)
   where

@@ -15,13 +15,14 @@ use Rattle.dk_types.specs.Sound.{IsSound}
 use Rattle.dk_reader.specs.declared.document.Document.{Document}
 use Rattle.dk_reader.specs.declared.fault.ReadRefusal.{ReadRefusal}
 use Rattle.dk_reader.specs.declared.fault.ReadRefusal.TheVariants as refusal
-use Rattle.dk_reader.specs.Document.{document_of}
+use Rattle.dk_reader.specs.Document.{AreNamed, document_of}
 use Rattle.dk_reader.specs.Readable.{AreReadable}
 use Rattle.dk_reader.specs.Steps.{study_faults}
 use Rattle.dk_reader.specs.Study.{study_of}
 use Rattle.dk_reader.specs.Checks.{DocumentRead}
 use Rattle.dk_reader.specs.Reading.{HasDocument, of_bytes, of_tokens, of_steps, StudyRead, DocumentOf, lexical_refusal, grammar_refusal}
 use Rattle.dk_reader.proofs.Readable.{tree_readable}
+use Rattle.dk_reader.proofs.TableEntries.{text_named}
 use Rattle.dk_reader.proofs.Sound.{study_is_sound}
 
 module _ (text : List ℕ) where
@@ -46,6 +47,10 @@ module _ (text : List ℕ) where
     pub readable : (tree : Tree) → AreSpans text tokens → AreStrings text tokens → Grown text tokens (Ok tree) → AreReadable text tree.items
     readable tree spans strings h = subst (λ (t : Tree). AreReadable text t.items) (sym h.1) (tree_readable text tokens spans strings)
 
+  -- the keywords of a text's document have their own entries
+  pub document_named : (d : Document) → HasDocument text d → AreNamed d.fields
+  document_named d has = subst (λ (x : Document). AreNamed x.fields) (sym has.says) (text_named text has.tokens)
+
   -- the study of the text's document, or its first fault, is the text's
   pub document_read : (d : Document) (result : Result Study ReadRefusal) → HasDocument text d → DocumentRead d result → StudyRead text result
   document_read d (Ok study) has h = record { document = d; has = has; faultless = h.0; study_is = h.1 }
@@ -56,7 +61,8 @@ module _ (text : List ℕ) where
   pub sound_read : (d : Document) (result : Result Study ReadRefusal) → HasDocument text d → DocumentRead d result → IfOk result IsSound
   sound_read d (Ok study) has h =
       let t = tree_of text has.tokens in
+      let named : AreNamed (document_of text t).fields = text_named text has.tokens in
       let none : study_faults (document_of text t) ≡ [] = ap study_faults (sym has.says) ∙ h.0 in
       let is : study ≡ study_of (document_of text t) = h.1 ∙ ap study_of has.says in
-      subst IsSound (sym is) (study_is_sound text t none)
+      subst IsSound (sym is) (study_is_sound text t named none)
   sound_read d (Err f) has h = tt

@@ -2,12 +2,13 @@
 use Rattle.std.proofs.Common.{◌≡◌, ℕ, zero, suc, ◌<◌, ◌||◌, Bool, true, false, List, [], ◌∷◌, ◌++◌, length, map, filter, get_or, refl, sym, ap, ◌∙◌, arith, rules, Some, ℤ}
 use Rattle.std.specs.List.{flat_map}
 use Rattle.std.specs.Option.{option_map_or}
+use Rattle.std.proofs.lemmas.List.Elements.{All-head, All-tail}
 use denote.Enum.Bare.{same_true}
 use Rattle.dk_lex.proofs.Runs.{left_of, right_of}
 use Rattle.dk_num.specs.Units.{IsWithin, AreWithin}
 use Rattle.dk_grammar.specs.Lists.{first}
-use Rattle.dk_grammar.specs.Words.{word_of}
-use Rattle.dk_grammar.specs.Meanings.{same_block, same_name, entry_of}
+use Rattle.dk_grammar.specs.Meanings.{same_block, same_name}
+use Rattle.dk_reader.proofs.TableEntries.{entry_by_name, IsNamed, entry_is}
 use Rattle.dk_grammar.specs.declared.words.Block.{Block}
 use Rattle.dk_grammar.specs.declared.words.Name.{Name}
 use Rattle.dk_grammar.specs.declared.words.Entry.{Entry}
@@ -17,8 +18,8 @@ use Rattle.dk_reader.specs.declared.value.Value.{Value}
 use Rattle.dk_reader.specs.declared.document.Field.{Field}
 use Rattle.dk_reader.specs.declared.document.Document.{Document}
 use Rattle.dk_reader.specs.Values.{number}
-use Rattle.dk_reader.specs.Document.{is_field, values_at}
-use Rattle.dk_reader.specs.Study.{is_measured, is_numbers, entry_of_field, takes_numbers, measured_values, written_values}
+use Rattle.dk_reader.specs.Document.{AreNamed, is_field, values_at}
+use Rattle.dk_reader.specs.Study.{is_measured, is_numbers, takes_numbers, measured_values, written_values}
 
 -- the numbers of these values aren't too great
 abbrev pub Fit : ℤ → List Value → Type 0
@@ -48,34 +49,26 @@ one_name n m e = same_true name_type.the_type (search rules) m n (at (same_name 
     at true e = refl
     at false e = e
 
-module _ (b : Block) (n : Name) (entry : Entry) (measured : is_measured b ≡ true) (is : entry_of b (word_of n) ≡ Some entry) (numbers : is_numbers entry.takes ≡ true) where
-  -- the table's entry for a keyword of this block and name
-  entry_is : (f : Field) → f.block ≡ b → f.name ≡ n → entry_of_field f ≡ Some entry
-  unfolding entry_of_field
-  entry_is f e g = rw (e, g) is
-
-  takes_them : (f : Field) → entry_of_field f ≡ Some entry → takes_numbers f ≡ true
-  takes_them f e = rw e numbers
-
+module _ (b : Block) (n : Name) (entry : Entry) (measured : is_measured b ≡ true) (is : entry_by_name b n ≡ Some entry) (numbers : is_numbers entry.takes ≡ true) where
   -- its values are told in units
-  all_measured : (f : Field) → is_field b (n ∷ []) f ≡ true → measured_values f ≡ f.values
-  all_measured f e =
-      let at_block : b ≡ f.block = same_true block_type.the_type (search rules) b f.block (left_of (same_block b f.block) (same_name f.name n || false) e) in
-      let at_name : f.name ≡ n = one_name n f.name (right_of (same_block b f.block) (same_name f.name n || false) e) in
-      let some : takes_numbers f ≡ true = takes_them f (entry_is f (sym at_block) at_name) in
+  all_measured : (f : Field) → IsNamed f → is_field b (n ∷ []) f ≡ true → measured_values f ≡ f.values
+  all_measured f named e =
+      let at_block : b ≡ f.block = same_true block_type.the_type (search rules) b f.block (left_of (same_block b f.block) (same_name f.entry.name n || false) e) in
+      let at_name : f.entry.name ≡ n = one_name n f.entry.name (right_of (same_block b f.block) (same_name f.entry.name n || false) e) in
+      let some : takes_numbers f ≡ true = ap (λ x. is_numbers x.takes) (entry_is f b n entry named (sym at_block) at_name is) ∙ numbers in
       let inside : is_measured f.block ≡ true = ap is_measured (sym at_block) ∙ measured in
       rw (inside, some) refl
 
-  among : (e : ℤ) (fields : List Field) → Fit e (flat_map measured_values fields) → Fit e (option_map_or (λ f. f.values) (first (filter (is_field b (n ∷ [])) fields)) [])
-  among e [] h = tt
-  among e (f ∷ fs) h = at (is_field b (n ∷ []) f) refl (both e (measured_values f) (flat_map measured_values fs) h) (among e fs)
+  among : (e : ℤ) (fields : List Field) → AreNamed fields → Fit e (flat_map measured_values fields) → Fit e (option_map_or (λ f. f.values) (first (filter (is_field b (n ∷ [])) fields)) [])
+  among e [] names h = tt
+  among e (f ∷ fs) names h = at (is_field b (n ∷ []) f) refl (both e (measured_values f) (flat_map measured_values fs) h) (among e fs (All-tail IsNamed f fs names))
     where
       at : (t : Bool) → is_field b (n ∷ []) f ≡ t → Fit e (measured_values f) × Fit e (flat_map measured_values fs) →
           (Fit e (flat_map measured_values fs) → Fit e (option_map_or (λ f. f.values) (first (filter (is_field b (n ∷ [])) fs)) [])) →
           Fit e (option_map_or (λ f. f.values) (first (filter (is_field b (n ∷ [])) (f ∷ fs))) [])
-      at true g parts next = rw g (rw (all_measured f g) at parts.0)
+      at true g parts next = rw g (rw (all_measured f (All-head IsNamed f fs names) g) at parts.0)
       at false g parts next = rw g (next parts.1)
 
   -- the numbers of a keyword of variables or method are among those that are written
-  pub values_within : (e : ℤ) (d : Document) → AreWithin e (map number (written_values d)) → AreWithin e (map number (values_at d b n))
-  values_within e d h = among e d.fields h
+  pub values_within : (e : ℤ) (d : Document) → AreNamed d.fields → AreWithin e (map number (written_values d)) → AreWithin e (map number (values_at d b n))
+  values_within e d names h = among e d.fields names h

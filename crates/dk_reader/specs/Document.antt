@@ -1,16 +1,17 @@
 -- What a study file says, keyword by keyword.
-use Rattle.std.specs.Prelude.{ℕ, Bool, false, List, [], ◌∷◌, map, filter, Option, is_some, option_and_then, codes, ◌&&◌}
-use Rattle.std.specs.List.{find, list_any}
+-- After the Dakota Reference Manual: the blocks method, variables, interface and responses.
+use Rattle.std.specs.Prelude.{◌≡◌, ℕ, Bool, false, List, [], ◌∷◌, map, filter, Option, Some, is_some, option_and_then, codes, ◌&&◌}
+use Rattle.std.specs.List.{All, find, list_any}
 use Rattle.std.specs.Option.{option_map_or}
 use Rattle.dk_lex.specs.declared.token.Span.{Span}
 use Rattle.dk_grammar.specs.Lists.{first}
-use Rattle.dk_grammar.specs.Meanings.{same_block, same_name}
+use Rattle.dk_grammar.specs.Meanings.{same_block, same_name, entry_named}
 use Rattle.dk_grammar.specs.declared.words.Block.{Block}
 use Rattle.dk_grammar.specs.declared.words.Block.TheVariants as block
 use Rattle.dk_grammar.specs.declared.words.Name.{Name}
 use Rattle.dk_grammar.specs.declared.words.Name.TheVariants as name
 use Rattle.dk_grammar.specs.declared.parts.Item.{Item}
-use Rattle.dk_grammar.specs.declared.parts.Part.{Part}
+use Rattle.dk_grammar.specs.declared.parts.Opening.{Opening}
 use Rattle.dk_grammar.specs.declared.parts.Tree.{Tree}
 use Rattle.dk_reader.specs.declared.value.Value.{Value}
 use Rattle.dk_reader.specs.declared.document.Field.{Field}
@@ -19,7 +20,7 @@ use Rattle.dk_reader.specs.Values.{values_of, whole, string}
 
 -- a keyword with its values
 abbrev pub field_at : List ℕ → Item → Field
-field_at text i = record { block = i.block; name = i.name; keyword = i.keyword; values = values_of text i.values }
+field_at text i = record { block = i.block; entry = i.entry; keyword = i.keyword; values = values_of text i.values }
 
 -- what a text of these parts says
 abbrev pub document_of : List ℕ → Tree → Document
@@ -42,10 +43,14 @@ is_name_in names n = list_any (same_name n) names
 
 -- a keyword of a block under one of these names
 abbrev pub is_field : Block → List Name → Field → Bool
-is_field b names f = same_block b f.block && is_name_in names f.name
+is_field b names f = same_block b f.block && is_name_in names f.entry.name
+
+-- each keyword has its own entry of the table
+abbrev pub AreNamed : List Field → Type 0
+AreNamed fields = All (λ f. entry_named f.block f.entry.name ≡ Some f.entry) fields
 
 -- where a block's name stands
-abbrev pub span_of : List Part → Block → Span
+abbrev pub span_of : List Opening → Block → Span
 span_of parts b = option_map_or (λ p. p.name) (find (λ p. same_block b p.block) parts) empty_span
 
 -- the first whole number of a keyword, or this one
@@ -91,7 +96,7 @@ module _ (d : Document) where
   method_field = first (fields_of block.Method method_names)
 
   abbrev pub method_is : Name → Bool
-  method_is n = option_map_or (λ f. same_name f.name n) method_field false
+  method_is n = option_map_or (λ f. same_name f.entry.name n) method_field false
 
   -- n, the number of variables
   abbrev pub variable_count : ℕ

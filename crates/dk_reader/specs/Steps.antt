@@ -1,5 +1,6 @@
 -- The faults of what a study file says, step by step. Each step lists its faults in order, and the first of all counts.
-use Rattle.std.specs.Prelude.{ℕ, ◌+◌, ◌*◌, ◌%◌, Bool, true, false, List, [], ◌∷◌, ◌++◌, length, map, Option, Some, None, is_some, is_none, codes, ◌==◌, ◌&&◌, ◌||◌, not, nat_lt, nat_le, if◌then◌else◌, slice_get, ℤ}
+-- After the Dakota Reference Manual on each keyword, and the User's Manual, chapter "Parameter Study Capabilities".
+use Rattle.std.specs.Prelude.{ℕ, ◌+◌, ◌*◌, ◌%◌, Bool, true, false, List, [], ◌∷◌, ◌++◌, length, map, Option, is_some, is_none, codes, ◌==◌, ◌&&◌, ◌||◌, not, nat_lt, nat_le, if◌then◌else◌, slice_get, ℤ}
 use Rattle.std.specs.List.{flat_map, list_any, list_all, range_with_len}
 use Rattle.std.specs.Option.{option_map_or, option_to_list}
 use Rattle.std.specs.Str.{bytes_eq}
@@ -10,7 +11,6 @@ use Rattle.dk_num.specs.Units.{is_moderate, units_of}
 use Rattle.dk_lex.specs.declared.token.Span.{Span}
 use Rattle.dk_grammar.specs.Lists.{first, when, Place, places}
 use Rattle.dk_grammar.specs.Meanings.{same_block, same_name}
-use Rattle.dk_grammar.specs.declared.words.Entry.{Entry}
 use Rattle.dk_grammar.specs.declared.words.Block.{Block}
 use Rattle.dk_grammar.specs.declared.words.Block.TheVariants as block
 use Rattle.dk_grammar.specs.declared.words.Name.{Name}
@@ -28,7 +28,7 @@ use Rattle.dk_reader.specs.declared.document.Field.{Field}
 use Rattle.dk_reader.specs.declared.document.Document.{Document}
 use Rattle.dk_reader.specs.Values.{count_of, spread, number, string}
 use Rattle.dk_reader.specs.Document.{block_span, fields_of, field_of, has, values_at, method_names, function_names, label_names, is_name_in, method_field, method_is, variable_count, response_count, parameters_name, results_name}
-use Rattle.dk_reader.specs.Study.{is_measured, entry_of_field, measured_values, written_values, unit_exponent, limit}
+use Rattle.dk_reader.specs.Study.{is_measured, measured_values, written_values, unit_exponent, limit}
 
 abbrev pub Faults : Type 0
 Faults = List StudyFault
@@ -60,9 +60,41 @@ at_values k is_bad vs = flat_map (λ v. wrong_if (is_bad v) k v.span) vs
 abbrev pub is_bad_whole : (low high : ℕ) → Value → Bool
 is_bad_whole low high v = is_none v.copies || not (option_map_or (λ n. nat_le low n && nat_le n high) v.whole false)
 
--- one whole number from 1 to 100
+abbrev pub delta_names : List Name
+delta_names = name.InitialDelta ∷ (name.ThresholdDelta ∷ [])
+
+abbrev pub is_above : Decimal → Decimal → Bool
+is_above x y = is_gt (decimal_cmp x y)
+
+-- a number, led by a power of ten in -400..400 in the blocks of numbers, and above 0 if it is a delta
+abbrev pub is_good_number : Block → Name → Decimal → Bool
+is_good_number b n x = (not (is_measured b) || is_moderate x) && (not (is_name_in delta_names n) || is_above x zero_decimal)
+
+abbrev pub is_bad_number : Block → Name → Value → Bool
+is_bad_number b n v = not (option_map_or (is_good_number b n) v.number false)
+
+-- an N that isn't from 1 to 4,000,000
+abbrev pub is_bad_copies : Value → Bool
+is_bad_copies v = is_none v.copies
+
+abbrev pub copies_faults : Field → Faults
+copies_faults f = at_values kind.BadWhole is_bad_copies f.values
+
+abbrev pub bad_number_faults : Field → Faults
+bad_number_faults f = at_values kind.BadNumber (is_bad_number f.block f.entry.name) f.values
+
+abbrev pub number_faults : Field → Faults
+number_faults f = copies_faults f ++ bad_number_faults f
+
+-- the values, by what the keyword takes
+abbrev pub value_faults : Takes → Field → Faults
+value_faults (takes.Wholes low high) f = at_values kind.BadWhole (is_bad_whole low high) f.values
+value_faults takes.Numbers f = number_faults f
+value_faults _ f = []
+
+-- one value, of those that the keyword takes
 abbrev pub size_faults : Field → Faults
-size_faults f = wrong_if (not (count_of f.values == 1)) kind.WrongCount f.keyword ++ at_values kind.BadWhole (is_bad_whole 1 100) f.values
+size_faults f = wrong_if (not (count_of f.values == 1)) kind.WrongCount f.keyword ++ value_faults f.entry.takes f
 
 -- just one keyword of a block has one of these names
 abbrev pub one_of : Document → Block → List Name → Faults
@@ -116,38 +148,6 @@ step4 d =
     ++ (one_of d block.Interface (name.Fork ∷ (name.Direct ∷ []))
     ++ of_field (direct_faults d) (field_of d block.Interface name.Direct)))
 
-abbrev pub delta_names : List Name
-delta_names = name.InitialDelta ∷ (name.ThresholdDelta ∷ [])
-
-abbrev pub is_above : Decimal → Decimal → Bool
-is_above x y = is_gt (decimal_cmp x y)
-
--- a number, led by a power of ten in -400..400 in the blocks of numbers, and above 0 if it is a delta
-abbrev pub is_good_number : Block → Name → Decimal → Bool
-is_good_number b n x = (not (is_measured b) || is_moderate x) && (not (is_name_in delta_names n) || is_above x zero_decimal)
-
-abbrev pub is_bad_number : Block → Name → Value → Bool
-is_bad_number b n v = not (option_map_or (is_good_number b n) v.number false)
-
--- an N that isn't from 1 to 4,000,000
-abbrev pub is_bad_copies : Value → Bool
-is_bad_copies v = is_none v.copies
-
-abbrev pub copies_faults : Field → Faults
-copies_faults f = at_values kind.BadWhole is_bad_copies f.values
-
-abbrev pub bad_number_faults : Field → Faults
-bad_number_faults f = at_values kind.BadNumber (is_bad_number f.block f.name) f.values
-
-abbrev pub number_faults : Field → Faults
-number_faults f = copies_faults f ++ bad_number_faults f
-
--- the values, by what the keyword takes
-abbrev pub value_faults : Takes → Field → Faults
-value_faults (takes.Wholes low high) f = at_values kind.BadWhole (is_bad_whole low high) f.values
-value_faults takes.Numbers f = number_faults f
-value_faults _ f = []
-
 -- the value with which there are too many
 abbrev pub excess_at : Place Value → Faults
 excess_at p = wrong_if (nat_lt 4000000 (count_of (p.before ++ p.here ∷ []))) kind.TooMany p.here.span
@@ -170,22 +170,18 @@ is_right_count variables responses counts.PerResponse k = k == responses
 is_right_count variables responses counts.Any k = true
 
 -- the values of a keyword, and then their count
-abbrev pub entry_faults : Document → Field → Entry → Faults
-entry_faults d f e =
-    value_faults e.takes f ++ (excess_faults f.values
-    ++ wrong_if (not (is_right_count (variable_count d) (response_count d) e.count (count_of f.values))) kind.WrongCount f.keyword)
+abbrev pub entry_faults : Document → Field → Faults
+entry_faults d f =
+    value_faults f.entry.takes f ++ (excess_faults f.values
+    ++ wrong_if (not (is_right_count (variable_count d) (response_count d) f.entry.count (count_of f.values))) kind.WrongCount f.keyword)
 
 -- the keywords of steps 2 to 4
 abbrev pub checked_names : List Name
 checked_names = name.ContinuousDesign ∷ (name.ObjectiveFunctions ∷ (name.ResponseFunctions ∷ (name.AnalysisDrivers ∷ [])))
 
--- what a keyword of the table is checked for
-abbrev pub entry_faults_of : Document → Field → Option Entry → Faults
-entry_faults_of d f None = []
-entry_faults_of d f (Some e) = entry_faults d f e
-
+-- what all other keywords are checked for
 abbrev pub field_faults : Document → Field → Faults
-field_faults d f = if is_name_in checked_names f.name then [] else entry_faults_of d f (entry_of_field f)
+field_faults d f = if is_name_in checked_names f.entry.name then [] else entry_faults d f
 
 abbrev pub faults_of_fields : Document → List Field → Faults
 faults_of_fields d fields = flat_map (field_faults d) fields
@@ -202,7 +198,7 @@ is_empty v = length (string v) == 0
 
 -- a fault at each value of a keyword that fails a test, if it has one of these names
 abbrev pub at_values_in : StudyKind → (Value → Bool) → List Name → Field → Faults
-at_values_in k is_bad names f = if is_name_in names f.name then at_values k is_bad f.values else []
+at_values_in k is_bad names f = if is_name_in names f.entry.name then at_values k is_bad f.values else []
 
 -- strings that are no labels
 abbrev pub label_faults : List Field → Faults
@@ -226,7 +222,7 @@ abbrev pub twice_faults : List Value → Faults
 twice_faults labels = flat_map twice_at (places labels)
 
 abbrev pub twice_faults_in : Field → Faults
-twice_faults_in f = if is_name_in label_names f.name then twice_faults f.values else []
+twice_faults_in f = if is_name_in label_names f.entry.name then twice_faults f.values else []
 
 abbrev pub twice_faults_of : List Field → Faults
 twice_faults_of fields = flat_map twice_faults_in fields
@@ -257,7 +253,7 @@ needs_of _ = []
 
 -- a keyword of the block of methods that is of another one
 abbrev pub is_foreign : Field → Field → Bool
-is_foreign m f = same_block block.Method f.block && not (is_name_in (m.name ∷ (name.Output ∷ names_of m.name)) f.name)
+is_foreign m f = same_block block.Method f.block && not (is_name_in (m.entry.name ∷ (name.Output ∷ names_of m.entry.name)) f.entry.name)
 
 abbrev pub foreign_faults : Field → List Field → Faults
 foreign_faults m fields = flat_map (λ f. wrong_if (is_foreign m f) kind.Conflict f.keyword) fields
@@ -280,15 +276,15 @@ has_objective d = has d block.Responses name.ObjectiveFunctions && response_coun
 -- what a grid and a search need of other blocks
 abbrev pub other_block_faults : Document → Field → Faults
 other_block_faults d m =
-    wrong_if (same_name m.name name.MultidimParameterStudy && not (has_bounds d)) kind.Missing (block_span d block.Variables)
-    ++ wrong_if (same_name m.name name.CompassSearch && not (has_objective d)) kind.Conflict m.keyword
+    wrong_if (same_name m.entry.name name.MultidimParameterStudy && not (has_bounds d)) kind.Missing (block_span d block.Variables)
+    ++ wrong_if (same_name m.entry.name name.CompassSearch && not (has_objective d)) kind.Conflict m.keyword
 
 -- the keywords of this method
 abbrev pub method_faults : Document → Field → Faults
 method_faults d m =
     foreign_faults m d.fields
-    ++ (wrong_if (list_any (lacks d) (needs_of m.name)) kind.Missing m.keyword
-    ++ (both_faults d m.name
+    ++ (wrong_if (list_any (lacks d) (needs_of m.entry.name)) kind.Missing m.keyword
+    ++ (both_faults d m.entry.name
     ++ other_block_faults d m))
 
 -- the method

@@ -1,12 +1,10 @@
 -- The study that a file without faults says: each part as written, or by default.
+-- After the Dakota Reference Manual: the blocks environment, method, variables, interface and responses.
 use Rattle.std.specs.Prelude.{ℕ, ◌+◌, ◌*◌, Bool, true, false, List, [], ◌∷◌, ◌++◌, length, map, filter, Option, Some, None, unwrap_or, codes, decimal, ◌==◌, ◌&&◌, not, if◌then◌else◌, ℤ, pos, replicate, nat_lt}
 use Rattle.std.specs.List.{flat_map, fold, slice_split, range_with_len}
 use Rattle.std.specs.Option.{option_map_or}
 use Rattle.dk_num.specs.Units as units
 use Rattle.dk_grammar.specs.Lists.{first}
-use Rattle.dk_grammar.specs.Meanings.{entry_of}
-use Rattle.dk_grammar.specs.Words.{word_of}
-use Rattle.dk_grammar.specs.declared.words.Entry.{Entry}
 use Rattle.dk_grammar.specs.declared.words.Takes.{Takes}
 use Rattle.dk_grammar.specs.declared.words.Takes.TheVariants as takes
 use Rattle.dk_grammar.specs.declared.words.Block.{Block}
@@ -44,13 +42,9 @@ abbrev pub is_numbers : Takes → Bool
 is_numbers takes.Numbers = true
 is_numbers _ = false
 
--- what a keyword takes, by the table of keywords
-unfoldable pub entry_of_field : Field → Option Entry
-entry_of_field f = entry_of f.block (word_of f.name)
-
 -- the keyword takes numbers
 abbrev pub takes_numbers : Field → Bool
-takes_numbers f = option_map_or (λ e. is_numbers e.takes) (entry_of_field f) false
+takes_numbers f = is_numbers f.entry.takes
 
 -- the values of a keyword that are told in units: numbers of variables and method
 abbrev pub measured_values : Field → List Value

@@ -1,4 +1,5 @@
 -- The values of a keyword: numbers, whole numbers and strings, with N*value for N of them.
+-- After the Dakota Reference Manual on input files: strings stand in quotes, and N*value repeats a number.
 use Rattle.std.specs.Prelude.{ℕ, ◌-◌, Bool, List, [], length, map, sum_by, replicate, Option, Some, None, unwrap_or, ◌==◌, ◌&&◌, nat_lt, nat_le, if◌then◌else◌, slice_range, option_and_then}
 use Rattle.std.specs.List.{flat_map, list_all, list_any, before_first, after_first}
 use Rattle.std.specs.Result.{result_ok}

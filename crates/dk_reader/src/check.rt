@@ -1,21 +1,15 @@
 // The steps in their order, and the study of a document that has no fault.
-ghost use Rattle.std.specs.Prelude.{◌≡◌, List, map};
+ghost use Rattle.std.specs.Prelude.{◌≡◌, map};
 ghost use Rattle.std.specs.List.{flat_map};
 ghost use Rattle.dk_num.specs.Units.{AreWithin};
 ghost use Rattle.dk_grammar.specs.Lists.{first};
-ghost use Rattle.dk_reader.specs.Values.{number as number_lem};
-ghost use Rattle.dk_reader.specs.Study as study_lem;
+ghost use Rattle.dk_reader.specs.Values as value_spec;
+ghost use Rattle.dk_reader.specs.Document.{AreNamed};
+ghost use Rattle.dk_reader.specs.Study as study_spec;
 ghost use Rattle.dk_reader.specs.Checks.{faults_of, faults_before_unit, faults_from_unit, DocumentRead};
 
-use crate::bounds::step9;
-use crate::build::build;
 use crate::document::Document;
-use crate::entries::{step5, step6};
 use crate::fault::{ReadRefusal, StudyFault};
-use crate::heads::{step1, step2, step3, step4};
-use crate::limits::{limit_of, step10};
-use crate::methods::{step7, step8, step12};
-use crate::units::{step11, written_numbers};
 use dk_num::{Unit, unit_of};
 use dk_types::Study;
 use std::alloc::Global;
@@ -48,65 +42,65 @@ const STEPS: [Step; 10] = [
     Step::Size,
 ];
 
-fn fault_of(step: &Step, document: &Document) -> Option<StudyFault>
-    ensures { result ≡ first (faults_of document.now step.now) }
-{
-    match step {
-        Step::Method => step1(document),
-        Step::Variables => step2(document),
-        Step::Responses => step3(document),
-        Step::Driver => step4(document),
-        Step::Values => step5(document),
-        Step::Labels => step6(document),
-        Step::Keywords => step7(document),
-        Step::Rules => step8(document),
-        Step::Bounds => step9(document),
-        Step::Size => step10(document),
-    }
-}
-
-fn first_fault_among(steps: &[Step], document: &Document) -> Option<StudyFault>
-    ensures { result ≡ first (flat_map (faults_of document.now) steps.now) }
-{
-    for step in steps {
-        match fault_of(step, document) {
-            Some(fault) => return Some(fault),
-            None => {}
+impl Document {
+    fn fault_of(&self, step: &Step) -> Option<StudyFault>
+        ensures { result ≡ first (faults_of self.now step.now) }
+    {
+        match step {
+            Step::Method => self.step1(),
+            Step::Variables => self.step2(),
+            Step::Responses => self.step3(),
+            Step::Driver => self.step4(),
+            Step::Values => self.step5(),
+            Step::Labels => self.step6(),
+            Step::Keywords => self.step7(),
+            Step::Rules => self.step8(),
+            Step::Bounds => self.step9(),
+            Step::Size => self.step10(),
         }
     }
-    None
-}
 
-/// The first fault of the steps before the unit's.
-fn first_fault(document: &Document) -> Option<StudyFault>
-    ensures { result ≡ first (faults_before_unit document.now) }
-{
-    first_fault_among(&STEPS, document)
-}
-
-/// The first fault of the unit's step and the last.
-fn last_fault(document: &Document, unit: Unit) -> Option<StudyFault>
-    requires unit { unit.exponent ≡ study_lem.unit_exponent document.now }
-    requires within { AreWithin unit.exponent (map number_lem (study_lem.written_values document.now)) }
-    ensures { result ≡ first (faults_from_unit document.now) }
-{
-    step11(document, unit).or(step12(document))
-}
-
-/// The study of a document, or its first fault.
-pub fn study_of(alloc: Global, document: &Document) -> Result<Study, ReadRefusal>
-    ensures { DocumentRead document.now result }
-{
-    match first_fault(document) {
-        Some(fault) => return Err(ReadRefusal::Study(fault)),
-        None => {}
+    fn first_fault_among(&self, steps: &[Step]) -> Option<StudyFault>
+        ensures { result ≡ first (flat_map (faults_of self.now) steps.now) }
+    {
+        for step in steps {
+            if let Some(fault) = self.fault_of(step) {
+                return Some(fault);
+            }
+        }
+        None
     }
-    let numbers = written_numbers(alloc, document)?;
-    let unit = unit_of(&numbers);
-    match last_fault(document, unit) {
-        Some(fault) => return Err(ReadRefusal::Study(fault)),
-        None => {}
+
+    /// The first fault of the steps before the unit's.
+    fn first_fault(&self) -> Option<StudyFault>
+        ensures { result ≡ first (faults_before_unit self.now) }
+    {
+        self.first_fault_among(&STEPS)
     }
-    let study = build(alloc, document, unit, limit_of(document))?;
-    Ok(study)
+
+    /// The first fault of the unit's step and the last.
+    fn last_fault(&self, unit: Unit) -> Option<StudyFault>
+        requires has_unit { unit.exponent ≡ study_spec.unit_exponent self.now }
+        requires fits_unit { AreWithin unit.exponent (map value_spec.number (study_spec.written_values self.now)) }
+        ensures { result ≡ first (faults_from_unit self.now) }
+    {
+        self.step11(unit).or(self.step12())
+    }
+
+    /// The study of a document, or its first fault.
+    pub fn study_of(&self, alloc: Global) -> Result<Study, ReadRefusal>
+        requires { AreNamed self.now.fields }
+        ensures { DocumentRead self.now result }
+    {
+        if let Some(fault) = self.first_fault() {
+            return Err(ReadRefusal::Study(fault));
+        }
+        let numbers = self.written_numbers(alloc)?;
+        let unit = unit_of(&numbers);
+        if let Some(fault) = self.last_fault(unit) {
+            return Err(ReadRefusal::Study(fault));
+        }
+        let study = self.build(alloc, unit, self.limit_of())?;
+        Ok(study)
+    }
 }

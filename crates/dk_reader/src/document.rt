@@ -2,15 +2,15 @@
 ghost use Rattle.std.specs.Prelude.{◌≡◌};
 
 use crate::value::Values;
-use dk_grammar::{Block, Blocks, Name};
+use dk_grammar::{Block, Blocks, Entry};
 use dk_lex::Span;
 use std::marker::Model;
 
-/// A keyword of a block, where it stands, and its values.
+/// A keyword of a block: its entry in the table of keywords, where it stands, and its values.
 #[derive(Drop)]
 pub struct Field {
     pub block: Block,
-    pub name: Name,
+    pub entry: Entry,
     pub keyword: Span,
     pub values: Values,
 }

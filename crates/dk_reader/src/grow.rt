@@ -17,7 +17,7 @@ fn field_at(alloc: Global, text: &[u8], item: &Item) -> Result<Field, AllocError
     let values = values_of(alloc, text, item.values.items())?;
     Ok(Field {
         block: item.block,
-        name: item.name,
+        entry: item.entry,
         keyword: item.keyword,
         values,
     })

@@ -2,22 +2,17 @@
 ghost use Rattle.std.specs.Prelude.{◌≡◌, option_copied, map, is_none};
 ghost use Rattle.std.specs.List.{list_any};
 ghost use Rattle.dk_grammar.specs.Lists.{first};
-ghost use Rattle.dk_grammar.specs.declared.words.Block.TheVariants as block_lem;
-ghost use Rattle.dk_reader.specs.Document as document_lem;
-ghost use Rattle.dk_reader.specs.Steps as lem;
+ghost use Rattle.dk_reader.specs.Steps as step_spec;
 
 use crate::document::{Document, Field};
 use crate::fault::{StudyFault, StudyKind};
-use crate::faults::{at_field, at_second, needs_another, wrong_if};
-use crate::fields::{
-    block_span, field_of, first_field, has, is_name_in, method_field, parameters_name,
-    response_count, results_name,
-};
+use crate::faults::{needs_another, wrong_if};
+use crate::fields::is_name_in;
 use dk_grammar::{Block, Name};
 
 /// The keywords of a method, beside its own and `output`.
 fn names_of(method: Name) -> &'static [Name]
-    ensures { result.now ≡ lem.names_of method }
+    ensures { result.now ≡ step_spec.names_of method }
 {
     match method {
         Name::VectorParameterStudy => &[Name::NumSteps, Name::StepVector, Name::FinalPoint],
@@ -34,190 +29,187 @@ fn names_of(method: Name) -> &'static [Name]
     }
 }
 
-/// Whether a keyword of the block of methods is of another method.
-fn is_foreign(method: &Field, field: &Field) -> bool
-    ensures { result ≡ lem.is_foreign method.now field.now }
-{
-    let own = field.name == method.name
-        || field.name == Name::Output
-        || is_name_in(names_of(method.name), field.name);
-    Block::Method == field.block && !own
-}
-
-/// A keyword of another method.
-fn foreign_fault(method: &Field, fields: &[Field]) -> Option<StudyFault>
-    ensures { result ≡ first (lem.foreign_faults method.now fields.now) }
-{
-    for field in fields {
-        if is_foreign(method, field) {
-            return Some(StudyFault {
-                kind: StudyKind::Conflict,
-                span: field.keyword,
-            });
-        }
-    }
-    None
-}
-
-/// Whether the block of methods has none of these keywords.
-fn lacks(document: &Document, names: &[Name]) -> bool
-    ensures { result ≡ lem.lacks document.now names.now }
-{
-    match first_field(document, Block::Method, names) {
-        Some(_) => false,
-        None => true,
-    }
-}
-
-/// Whether a keyword that the method needs isn't there.
-fn lacks_needed(document: &Document, method: Name) -> bool
-    ensures { result ≡ list_any (lem.lacks document.now) (lem.needs_of method) }
-{
-    match method {
-        Name::VectorParameterStudy => {
-            lacks(document, &[Name::NumSteps])
-                || lacks(document, &[Name::StepVector, Name::FinalPoint])
-        }
-        Name::ListParameterStudy => lacks(document, &[Name::ListOfPoints]),
-        Name::CenteredParameterStudy => {
-            lacks(document, &[Name::StepVector]) || lacks(document, &[Name::StepsPerVariable])
-        }
-        Name::MultidimParameterStudy => lacks(document, &[Name::Partitions]),
-        Name::CompassSearch => {
-            lacks(document, &[Name::InitialDelta]) || lacks(document, &[Name::ThresholdDelta])
-        }
-        _ => false,
-    }
-}
-
-/// Two keywords of which the method needs just one.
-fn both_fault(document: &Document, method: Name) -> Option<StudyFault>
-    ensures { result ≡ first (lem.both_faults document.now method) }
-{
-    if method == Name::VectorParameterStudy {
-        at_second(
-            document,
-            StudyKind::Conflict,
-            Block::Method,
-            &[Name::StepVector, Name::FinalPoint],
-        )
-    } else {
-        None
-    }
-}
-
-/// Whether a grid has both bounds.
-fn has_bounds(document: &Document) -> bool
-    ensures { result ≡ lem.has_bounds document.now }
-{
-    has(document, Block::Variables, Name::LowerBounds)
-        && has(document, Block::Variables, Name::UpperBounds)
-}
-
-/// Whether there is just one objective function.
-fn has_objective(document: &Document) -> bool
-    ensures { result ≡ lem.has_objective document.now }
-{
-    has(document, Block::Responses, Name::ObjectiveFunctions) && response_count(document) == 1
-}
-
-/// What a grid and a search need of other blocks.
-fn other_blocks_fault(document: &Document, method: &Field) -> Option<StudyFault>
-    ensures { result ≡ first (lem.other_block_faults document.now method.now) }
-{
-    let grid = wrong_if(
-        method.name == Name::MultidimParameterStudy && !has_bounds(document),
-        StudyKind::Missing,
-        block_span(document, Block::Variables),
-    );
-    grid.or(wrong_if(
-        method.name == Name::CompassSearch && !has_objective(document),
-        StudyKind::Conflict,
-        method.keyword,
-    ))
-}
-
-/// The keywords of a method.
-fn method_fault(document: &Document, method: &Field) -> Option<StudyFault>
-    ensures { result ≡ first (lem.method_faults document.now method.now) }
-{
-    let foreign = foreign_fault(method, document.fields.items());
-    let missing = wrong_if(
-        lacks_needed(document, method.name),
-        StudyKind::Missing,
-        method.keyword,
-    );
-    let both = both_fault(document, method.name);
-    foreign.or(missing.or(both.or(other_blocks_fault(document, method))))
-}
-
-/// The keywords of the method.
-pub fn step7(document: &Document) -> Option<StudyFault>
-    ensures { result ≡ first (lem.step7 document.now) }
-{
-    match method_field(document) {
-        Some(method) => method_fault(document, method),
-        None => None,
-    }
-}
-
 /// The keywords of failure rules.
 const RULES: [Name; 3] = [Name::Abort, Name::Retry, Name::Recover];
 
-/// A rule without `failure_capture`.
-fn uncaptured_rule(document: &Document) -> Option<StudyFault>
-    ensures { result ≡ first (lem.uncaptured_faults document.now) }
-{
-    let captured = has(document, Block::Interface, Name::FailureCapture);
-    needs_another(first_field(document, Block::Interface, &RULES), captured)
+impl Field {
+    /// Whether a keyword of the block of methods is of another method.
+    fn is_foreign(&self, method: &Field) -> bool
+        ensures { result ≡ step_spec.is_foreign method.now self.now }
+    {
+        let own = self.entry.name == method.entry.name
+            || self.entry.name == Name::Output
+            || is_name_in(names_of(method.entry.name), self.entry.name);
+        Block::Method == self.block && !own
+    }
+
+    /// A keyword of another method.
+    fn foreign_fault(&self, fields: &[Field]) -> Option<StudyFault>
+        ensures { result ≡ first (step_spec.foreign_faults self.now fields.now) }
+    {
+        match fields.iter().find(|field| field.is_foreign(self)) {
+            Some(field) => Some(StudyFault {
+                kind: StudyKind::Conflict,
+                span: field.keyword,
+            }),
+            None => None,
+        }
+    }
 }
 
-/// `failure_capture` without a rule.
-fn capture_without_rule(document: &Document) -> Option<StudyFault>
-    ensures { result ≡ first (lem.ruleless_faults document.now) }
-{
-    let has_rule = first_field(document, Block::Interface, &RULES).is_some();
-    let capture = field_of(document, Block::Interface, Name::FailureCapture);
-    needs_another(capture, has_rule)
-}
+impl Document {
+    /// Whether the block of methods has none of these keywords.
+    fn lacks(&self, names: &[Name]) -> bool
+        ensures { result ≡ step_spec.lacks self.now names.now }
+    {
+        self.first_field(Block::Method, names).is_none()
+    }
 
-/// `evaluation_concurrency` without `asynchronous`.
-fn concurrency_unasked(document: &Document) -> Option<StudyFault>
-    ensures { result ≡ first (lem.unasked_faults document.now) }
-{
-    let asked = has(document, Block::Interface, Name::Asynchronous);
-    needs_another(
-        field_of(document, Block::Interface, Name::EvaluationConcurrency),
-        asked,
-    )
-}
+    /// Whether a keyword that the method needs isn't there.
+    fn lacks_needed(&self, method: Name) -> bool
+        ensures { result ≡ list_any (step_spec.lacks self.now) (step_spec.needs_of method) }
+    {
+        match method {
+            Name::VectorParameterStudy => {
+                self.lacks(&[Name::NumSteps]) || self.lacks(&[Name::StepVector, Name::FinalPoint])
+            }
+            Name::ListParameterStudy => self.lacks(&[Name::ListOfPoints]),
+            Name::CenteredParameterStudy => {
+                self.lacks(&[Name::StepVector]) || self.lacks(&[Name::StepsPerVariable])
+            }
+            Name::MultidimParameterStudy => self.lacks(&[Name::Partitions]),
+            Name::CompassSearch => {
+                self.lacks(&[Name::InitialDelta]) || self.lacks(&[Name::ThresholdDelta])
+            }
+            _ => false,
+        }
+    }
 
-/// One name for both files.
-fn same_files(document: &Document) -> Option<StudyFault>
-    ensures { result ≡ first (lem.same_file_faults document.now) }
-{
-    wrong_if(
-        parameters_name(document) == results_name(document),
-        StudyKind::Conflict,
-        block_span(document, Block::Interface),
-    )
-}
+    /// Two keywords of which the method needs just one.
+    fn both_fault(&self, method: Name) -> Option<StudyFault>
+        ensures { result ≡ first (step_spec.both_faults self.now method) }
+    {
+        if method == Name::VectorParameterStudy {
+            self.at_second(
+                StudyKind::Conflict,
+                Block::Method,
+                &[Name::StepVector, Name::FinalPoint],
+            )
+        } else {
+            None
+        }
+    }
 
-/// Failures, concurrency and file names.
-pub fn step8(document: &Document) -> Option<StudyFault>
-    ensures { result ≡ first (lem.step8 document.now) }
-{
-    let second = at_second(document, StudyKind::Conflict, Block::Interface, &RULES);
-    let uncaptured = uncaptured_rule(document);
-    let ruleless = capture_without_rule(document);
-    let unasked = concurrency_unasked(document);
-    second.or(uncaptured.or(ruleless.or(unasked.or(same_files(document)))))
-}
+    /// Whether a grid has both bounds.
+    fn has_bounds(&self) -> bool
+        ensures { result ≡ step_spec.has_bounds self.now }
+    {
+        self.has(Block::Variables, Name::LowerBounds)
+            && self.has(Block::Variables, Name::UpperBounds)
+    }
 
-/// The table's name.
-pub fn step12(document: &Document) -> Option<StudyFault>
-    ensures { result ≡ first (lem.step12 document.now) }
-{
-    let name = field_of(document, Block::Environment, Name::TabularDataFile);
-    needs_another(name, has(document, Block::Environment, Name::TabularData))
+    /// Whether there is just one objective function.
+    fn has_objective(&self) -> bool
+        ensures { result ≡ step_spec.has_objective self.now }
+    {
+        self.has(Block::Responses, Name::ObjectiveFunctions) && self.response_count() == 1
+    }
+
+    /// What a grid and a search need of other blocks.
+    fn other_blocks_fault(&self, method: &Field) -> Option<StudyFault>
+        ensures { result ≡ first (step_spec.other_block_faults self.now method.now) }
+    {
+        let grid = wrong_if(
+            method.entry.name == Name::MultidimParameterStudy && !self.has_bounds(),
+            StudyKind::Missing,
+            self.block_span(Block::Variables),
+        );
+        grid.or(wrong_if(
+            method.entry.name == Name::CompassSearch && !self.has_objective(),
+            StudyKind::Conflict,
+            method.keyword,
+        ))
+    }
+
+    /// The keywords of a method.
+    fn method_fault(&self, method: &Field) -> Option<StudyFault>
+        ensures { result ≡ first (step_spec.method_faults self.now method.now) }
+    {
+        let foreign = method.foreign_fault(self.fields.items());
+        let missing = wrong_if(
+            self.lacks_needed(method.entry.name),
+            StudyKind::Missing,
+            method.keyword,
+        );
+        let both = self.both_fault(method.entry.name);
+        foreign.or(missing.or(both.or(self.other_blocks_fault(method))))
+    }
+
+    /// The keywords of the method.
+    pub fn step7(&self) -> Option<StudyFault>
+        ensures { result ≡ first (step_spec.step7 self.now) }
+    {
+        match self.method_field() {
+            Some(method) => self.method_fault(method),
+            None => None,
+        }
+    }
+
+    /// A rule without `failure_capture`.
+    fn uncaptured_rule(&self) -> Option<StudyFault>
+        ensures { result ≡ first (step_spec.uncaptured_faults self.now) }
+    {
+        let captured = self.has(Block::Interface, Name::FailureCapture);
+        needs_another(self.first_field(Block::Interface, &RULES), captured)
+    }
+
+    /// `failure_capture` without a rule.
+    fn capture_without_rule(&self) -> Option<StudyFault>
+        ensures { result ≡ first (step_spec.ruleless_faults self.now) }
+    {
+        let has_rule = self.first_field(Block::Interface, &RULES).is_some();
+        let capture = self.field_of(Block::Interface, Name::FailureCapture);
+        needs_another(capture, has_rule)
+    }
+
+    /// `evaluation_concurrency` without `asynchronous`.
+    fn concurrency_unasked(&self) -> Option<StudyFault>
+        ensures { result ≡ first (step_spec.unasked_faults self.now) }
+    {
+        let asked = self.has(Block::Interface, Name::Asynchronous);
+        needs_another(
+            self.field_of(Block::Interface, Name::EvaluationConcurrency),
+            asked,
+        )
+    }
+
+    /// One name for both files.
+    fn same_files(&self) -> Option<StudyFault>
+        ensures { result ≡ first (step_spec.same_file_faults self.now) }
+    {
+        wrong_if(
+            self.parameters_name() == self.results_name(),
+            StudyKind::Conflict,
+            self.block_span(Block::Interface),
+        )
+    }
+
+    /// Failures, concurrency and file names.
+    pub fn step8(&self) -> Option<StudyFault>
+        ensures { result ≡ first (step_spec.step8 self.now) }
+    {
+        let second = self.at_second(StudyKind::Conflict, Block::Interface, &RULES);
+        let uncaptured = self.uncaptured_rule();
+        let ruleless = self.capture_without_rule();
+        let unasked = self.concurrency_unasked();
+        second.or(uncaptured.or(ruleless.or(unasked.or(self.same_files()))))
+    }
+
+    /// The table's name.
+    pub fn step12(&self) -> Option<StudyFault>
+        ensures { result ≡ first (step_spec.step12 self.now) }
+    {
+        let name = self.field_of(Block::Environment, Name::TabularDataFile);
+        needs_another(name, self.has(Block::Environment, Name::TabularData))
+    }
 }

@@ -1,12 +1,10 @@
 // Lists of labels, words and numbers, as the values of keywords say them.
 ghost use Rattle.std.specs.Prelude.{◌≡◌, ◌++◌, map, replicate, decimal, IfOk, OnOk};
-ghost use Rattle.dk_reader.specs.Values as values_lem;
-ghost use Rattle.dk_reader.specs.Study as lem;
+ghost use Rattle.dk_reader.specs.Values as value_spec;
+ghost use Rattle.dk_reader.specs.Study as study_spec;
 
 use crate::document::Document;
-use crate::fields::{
-    LABELS, count, first_field, has, number, response_count, string, variable_count, whole,
-};
+use crate::fields::LABELS;
 use crate::value::Value;
 use dk_grammar::{Block, Name};
 use dk_types::{Counts, Decs, Labels, Text, Words};
@@ -28,22 +26,22 @@ pub fn push_copies<T: Copy + Drop>(
 
 /// The whole numbers of values.
 pub fn counts_of(alloc: Global, values: &[Value]) -> Result<Counts, AllocError>
-    ensures { IfOk result (λ c. c ≡ map values_lem.whole (values_lem.spread values.now)) }
+    ensures { IfOk result (λ c. c ≡ map value_spec.whole (value_spec.spread values.now)) }
 {
     let mut counts = Vec::new(alloc);
     for value in values {
-        push_copies(&mut counts, whole(value), count(value))?;
+        push_copies(&mut counts, value.whole(), value.count())?;
     }
     Ok(Counts::of_vec(counts))
 }
 
 /// The numbers of values.
 pub fn numbers_of(alloc: Global, values: &[Value]) -> Result<Decs, AllocError>
-    ensures { IfOk result (λ d. d ≡ map values_lem.number (values_lem.spread values.now)) }
+    ensures { IfOk result (λ d. d ≡ map value_spec.number (value_spec.spread values.now)) }
 {
     let mut numbers = Vec::new(alloc);
     for value in values {
-        push_copies(&mut numbers, number(value), count(value))?;
+        push_copies(&mut numbers, value.number(), value.count())?;
     }
     Ok(Decs::of_vec(numbers))
 }
@@ -64,11 +62,11 @@ fn push_texts(
 
 /// The strings of values.
 fn labels_of(alloc: Global, values: &[Value]) -> Result<Labels, AllocError>
-    ensures { IfOk result (λ l. l ≡ map values_lem.string (values_lem.spread values.now)) }
+    ensures { IfOk result (λ l. l ≡ map value_spec.string (value_spec.spread values.now)) }
 {
     let mut labels = Vec::new(alloc);
     for value in values {
-        push_texts(alloc, &mut labels, string(value), count(value))?;
+        push_texts(alloc, &mut labels, value.string(), value.count())?;
     }
     Ok(Labels::of_vec(labels))
 }
@@ -82,7 +80,7 @@ fn numbered_label(alloc: Global, prefix: &str, number: u32) -> Result<Text, Allo
 
 /// PREFIX1, PREFIX2, ..
 fn numbered(alloc: Global, prefix: &str, count: u32) -> Result<Labels, AllocError>
-    ensures { IfOk result (λ l. l ≡ lem.numbered prefix.now count) }
+    ensures { IfOk result (λ l. l ≡ study_spec.numbered prefix.now count) }
 {
     let mut labels = Vec::with_capacity(alloc, count as usize)?;
     for place in 0..count {
@@ -91,42 +89,9 @@ fn numbered(alloc: Global, prefix: &str, count: u32) -> Result<Labels, AllocErro
     Ok(Labels::of_vec(labels))
 }
 
-/// The labels of variables, as they are written or by default.
-pub fn variable_labels(alloc: Global, document: &Document) -> Result<Labels, AllocError>
-    ensures { IfOk result (λ l. l ≡ lem.variable_labels document.now) }
-{
-    match first_field(document, Block::Variables, &[Name::Descriptors]) {
-        Some(field) => labels_of(alloc, field.values.items()),
-        None => numbered(alloc, "cdv_", variable_count(document)),
-    }
-}
-
-fn default_responses(alloc: Global, document: &Document) -> Result<Labels, AllocError>
-    ensures { IfOk result (λ l. l ≡ lem.default_responses document.now) }
-{
-    let count = response_count(document);
-    if !has(document, Block::Responses, Name::ObjectiveFunctions) {
-        numbered(alloc, "response_fn_", count)
-    } else if count == 1 {
-        Labels::of(alloc, &[Text::of(alloc, "obj_fn")?])
-    } else {
-        numbered(alloc, "obj_fn_", count)
-    }
-}
-
-/// The labels of responses, as they are written or by default.
-pub fn response_labels(alloc: Global, document: &Document) -> Result<Labels, AllocError>
-    ensures { IfOk result (λ l. l ≡ lem.response_labels document.now) }
-{
-    match first_field(document, Block::Responses, &LABELS) {
-        Some(field) => labels_of(alloc, field.values.items()),
-        None => default_responses(alloc, document),
-    }
-}
-
 /// The pieces of a text between blanks.
 pub fn words_of(alloc: Global, text: &str) -> Result<Words, AllocError>
-    ensures { IfOk result (λ w. w ≡ lem.words_of text.now) }
+    ensures { IfOk result (λ w. w ≡ study_spec.words_of text.now) }
 {
     let mut words = Vec::new(alloc);
     for word in text.split(' ') {
@@ -135,4 +100,39 @@ pub fn words_of(alloc: Global, text: &str) -> Result<Words, AllocError>
         }
     }
     Words::of(alloc, &words)
+}
+
+impl Document {
+    /// The labels of variables, as they are written or by default.
+    pub fn variable_labels(&self, alloc: Global) -> Result<Labels, AllocError>
+        ensures { IfOk result (λ l. l ≡ study_spec.variable_labels self.now) }
+    {
+        match self.first_field(Block::Variables, &[Name::Descriptors]) {
+            Some(field) => labels_of(alloc, field.values.items()),
+            None => numbered(alloc, "cdv_", self.variable_count()),
+        }
+    }
+
+    fn default_responses(&self, alloc: Global) -> Result<Labels, AllocError>
+        ensures { IfOk result (λ l. l ≡ study_spec.default_responses self.now) }
+    {
+        let count = self.response_count();
+        if !self.has(Block::Responses, Name::ObjectiveFunctions) {
+            numbered(alloc, "response_fn_", count)
+        } else if count == 1 {
+            Labels::of(alloc, &[Text::of(alloc, "obj_fn")?])
+        } else {
+            numbered(alloc, "obj_fn_", count)
+        }
+    }
+
+    /// The labels of responses, as they are written or by default.
+    pub fn response_labels(&self, alloc: Global) -> Result<Labels, AllocError>
+        ensures { IfOk result (λ l. l ≡ study_spec.response_labels self.now) }
+    {
+        match self.first_field(Block::Responses, &LABELS) {
+            Some(field) => labels_of(alloc, field.values.items()),
+            None => self.default_responses(alloc),
+        }
+    }
 }

@@ -20,19 +20,18 @@ fn is_digit(byte: u8) -> bool
     b'0' <= byte && byte <= b'9'
 }
 
+/// Whether all bytes are digits.
+fn are_digits(bytes: &[u8]) -> bool
+    ensures { result ≡ list_all is_digit bytes.now }
+{
+    bytes.iter().all(|byte| is_digit(*byte))
+}
+
 /// Whether a text is digits alone, at least one.
 fn is_numeral(bytes: &[u8]) -> bool
     ensures { result ≡ is_numeral bytes.now }
 {
-    if bytes.is_empty() {
-        return false;
-    }
-    for byte in bytes {
-        if !is_digit(*byte) {
-            return false;
-        }
-    }
-    true
+    !bytes.is_empty() && are_digits(bytes)
 }
 
 /// The number of a text that is digits alone, up to 4,000,000.
@@ -64,8 +63,8 @@ fn number_of(bytes: &[u8]) -> Option<Dec>
 
 /// Where the first star stands, or else the length.
 fn star_at(bytes: &[u8]) -> usize
-    ensures place { result ≡ position_or_len is_star bytes.now }
-    ensures within { result ≤ length bytes.now }
+    ensures gives_place { result ≡ position_or_len is_star bytes.now }
+    ensures lies_within { result ≤ length bytes.now }
 {
     let mut at = 0;
     for byte in bytes {
@@ -140,8 +139,8 @@ fn text_of(alloc: Global, bytes: &[u8]) -> Result<Text, AllocError>
 
 /// What stands between the quotes of a string.
 fn string_of(alloc: Global, text: &[u8], span: Span) -> Result<Text, AllocError>
-    requires within { span.to ≤ length text.now }
-    requires string { IsStringAt text.now TokenKind.Quoted span }
+    requires lies_in_text { span.to ≤ length text.now }
+    requires is_string { IsStringAt text.now TokenKind.Quoted span }
     ensures { IfOk result (λ t. t ≡ inside (text_at text.now span)) }
 {
     let inside = &text[span.from as usize + 1..span.to as usize - 1];

@@ -1,6 +1,7 @@
 //! Texts with the study that they say or their first fault.
 mod bytes;
 mod faults;
+mod ranges;
 mod studies;
 mod told;
 
@@ -27,20 +28,25 @@ responses
   no_hessians
 ";
 
-/// The text in which the first place of each of these words has others.
+/// The text with the first place of some words replaced by others.
+pub fn replaced(alloc: Global, text: &str, old: &str, new: &str) -> Result<String, AllocError> {
+    let mut next = String::new(alloc);
+    match text.split_once(old) {
+        Some((front, behind)) => {
+            next.push_str(front)?;
+            next.push_str(new)?;
+            next.push_str(behind)?;
+        }
+        None => next.push_str("an edit that doesn't apply")?,
+    }
+    Ok(next)
+}
+
+/// The base study in which the first place of each of these words has others.
 pub fn edited(alloc: Global, edits: &[(&str, &str)]) -> Result<String, AllocError> {
     let mut text = String::from_str(alloc, BASE)?;
     for (old, new) in edits {
-        let mut next = String::new(alloc);
-        match text.as_str().split_once(*old) {
-            Some((front, behind)) => {
-                next.push_str(front)?;
-                next.push_str(new)?;
-                next.push_str(behind)?;
-            }
-            None => next.push_str("an edit that doesn't apply")?,
-        }
-        text = next;
+        text = replaced(alloc, text.as_str(), old, new)?;
     }
     Ok(text)
 }

@@ -1,6 +1,7 @@
 // The values of keywords, as they are written.
 ghost use Rattle.std.specs.Prelude.{◌≡◌};
 
+use crate::fields::zero;
 use dk_lex::Span;
 use dk_num::Dec;
 use dk_types::Text;
@@ -15,6 +16,42 @@ pub struct Value {
     pub whole: Option<u32>,
     pub number: Option<Dec>,
     pub string: Option<Text>,
+}
+
+impl Value {
+    ghost use Rattle.std.specs.Prelude.{◌≡◌};
+    ghost use Rattle.dk_reader.specs.Values as value_spec;
+
+    /// How many values it stands for.
+    pub fn count(&self) -> u32
+        ensures { result ≡ value_spec.count self.now }
+    {
+        self.copies.unwrap_or(1)
+    }
+
+    /// The whole number that it is, and 0 where it is none.
+    pub fn whole(&self) -> u32
+        ensures { result ≡ value_spec.whole self.now }
+    {
+        self.whole.unwrap_or(0)
+    }
+
+    /// The number that it is, and 0 where it is none.
+    pub fn number(&self) -> Dec
+        ensures { result ≡ value_spec.number self.now }
+    {
+        self.number.unwrap_or(zero())
+    }
+
+    /// The string that it is, and the empty one where it is none.
+    pub fn string(&self) -> &str
+        ensures { result.now ≡ value_spec.string self.now }
+    {
+        match &self.string {
+            Some(text) => text.as_str(),
+            None => "",
+        }
+    }
 }
 
 /// Values in order, which contracts see as a list.

@@ -16,5 +16,5 @@ returns-in-Some c =
 
 pub loop-field-preserved : goal.loop-field-preserved
 loop-field-preserved c =
-    let here = c.in-None.ensures ∙ ap (λ vs. first (off_grid_faults c.args.unit.exponent vs)) c.measured_values.ensures in
+    let here = c.in_default.ensures ∙ ap (λ vs. first (off_grid_faults c.args.unit.exponent vs)) c.measured_values.ensures in
     none_here (λ f. off_grid_faults c.args.unit.exponent (measured_values f)) c.args.fields.now c.loop-field.field-index c.field-item.result c.loop-field-test.true c.field-item.is _ here c.loop-field.invariant

@@ -1,9 +1,0 @@
-use Rattle.dk_reader.specs.Steps.{bound_faults}
-use Rattle.dk_reader.proofs.First.{found_at, none_at}
-use Rattle.dk_reader.proofs.bounds.all_bound_faults.Goals as goal
-
-pub returns-in-Some : goal.returns-in-Some
-returns-in-Some c = found_at (bound_faults c.args.document.now) c.loop-place.place c.variable_count-place-end.result c.loop-place-test.true c.in-Some.fault _ c.in-Some.ensures c.loop-place.invariant
-
-pub loop-place-preserved : goal.loop-place-preserved
-loop-place-preserved c = none_at (bound_faults c.args.document.now) c.loop-place.place c.variable_count-place-end.result c.loop-place-test.true _ c.in-None.ensures c.loop-place.invariant

@@ -1,8 +1,0 @@
-use Rattle.std.proofs.Common.{◌≡◌, drop}
-use Rattle.std.specs.List.{flat_map}
-use Rattle.dk_grammar.specs.Lists.{first}
-use Rattle.dk_reader.specs.Checks.{faults_of}
-use Rattle.dk_reader.proofs.check.first_fault_among.Given as goal
-
-abbrev pub invariant-loop-step : goal.invariant-loop-step
-invariant-loop-step l = first (flat_map (faults_of l.document) (drop l.step-index l.steps)) ≡ first (flat_map (faults_of l.document) l.steps)

@@ -1,0 +1,8 @@
+use Rattle.std.proofs.Common.{◌≡◌, ◌-◌}
+use Rattle.std.specs.List.{flat_map, range_with_len}
+use Rattle.dk_grammar.specs.Lists.{first}
+use Rattle.dk_reader.specs.Steps.{bound_faults, all_bound_faults}
+use Rattle.dk_reader.proofs.document.Document.all_bound_faults.Given as goal
+
+abbrev pub invariant-loop-place : goal.invariant-loop-place
+invariant-loop-place l = first (flat_map (bound_faults l.self) (range_with_len l.place (l.place-end - l.place))) ≡ first (all_bound_faults l.self)

@@ -1,7 +1,0 @@
-use Rattle.std.proofs.Common.{◌≡◌, drop}
-use Rattle.dk_grammar.specs.Lists.{first}
-use Rattle.dk_reader.specs.Steps.{faults_of_fields}
-use Rattle.dk_reader.proofs.entries.first_field_fault.Given as goal
-
-abbrev pub invariant-loop-field : goal.invariant-loop-field
-invariant-loop-field l = first (faults_of_fields l.document (drop l.field-index l.fields)) ≡ first (faults_of_fields l.document l.fields)

@@ -1,0 +1,10 @@
+use Rattle.std.proofs.Common.{rules, tests}
+use Rattle.std.proofs.lemmas.Iterator.{YieldsList-from_slice}
+use Rattle.std.proofs.lemmas.Iterator.Consumers.{YieldsList-from_filter, nth_from_yields_List}
+use Rattle.dk_reader.specs.Document.{is_field}
+use Rattle.dk_reader.proofs.fields.nth_among.Goals as goal
+
+pub returns : goal.returns
+returns c =
+    nth_from_yields_List _ _ _ c.nth.ensures.ran
+    (YieldsList-from_filter _ (is_field c.args.block c.args.names.now) (YieldsList-from_slice c.args.fields.now (cc)) c.filter.ensures.closure (λ x r q k. search (rules, tests)))
