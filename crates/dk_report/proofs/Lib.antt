@@ -2,4 +2,3 @@ pub mod BestRows
 pub mod LookedUp
 pub mod Parts
 pub mod Repeated
-pub mod Told

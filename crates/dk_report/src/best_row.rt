@@ -1,7 +1,7 @@
 // The best row of a study.
 ghost use Rattle.std.specs.Prelude.{◌≡◌, ◌-◌, ◌<◌, ◌≤◌, length, position, option_map, None, Some, IfSome};
 ghost use Rattle.std.specs.List.{All};
-ghost use Rattle.dk_types.specs.Best.{best as best_place, is_below as is_below_lem, is_least};
+ghost use Rattle.dk_types.specs.Best.{best as best_place, is_below as is_below_defined, is_least};
 ghost use Rattle.dk_report.specs.Widths.{HaveWidths, HasOneObjective};
 
 use dk_num::Dec;
@@ -43,7 +43,7 @@ fn least_row<R: Rows>(rows: &R) -> u32
 
 /// Whether the first value is below the first one of the others.
 fn is_below(values: &[Dec], others: &[Dec]) -> bool
-    ensures { result ≡ is_below_lem values.now others.now }
+    ensures { result ≡ is_below_defined values.now others.now }
 {
     match (values, others) {
         ([value, ..], [other, ..]) => value < other,

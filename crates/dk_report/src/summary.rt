@@ -1,7 +1,7 @@
 // The summary of a study's rows and of its end.
 ghost use Rattle.std.specs.Prelude.{◌≡◌, ◌≤◌};
 ghost use Rattle.dk_outside.specs.Causes.{HasCause};
-ghost use Rattle.dk_outside.specs.Flows.{flow, CarriesOn};
+ghost use Rattle.dk_outside.specs.Flows.{Puts};
 ghost use Rattle.dk_outside.specs.Sinks.{WritesText};
 ghost use Rattle.dk_types.specs.Best.{best as best_place};
 ghost use Rattle.dk_types.specs.Texts.{summary, why_text, ending_line, counts_line, best_lines, best_text, setting, settings_after};
@@ -12,7 +12,7 @@ use crate::best_row::best;
 use crate::numbers::{put_decimal, put_number};
 use crate::repeats::repeat_count;
 use dk_num::Dec;
-use dk_outside::{Buffer, Failed, Sink};
+use dk_outside::{Failed, Sink, Writer};
 use dk_types::{Ending, Rows, Study, Text, Why};
 
 /// Writes how the study ended, how many rows there are and how many of them are duplicates, and the best row. After
@@ -27,31 +27,31 @@ pub fn write_summary<R: Rows, U: Sink>(
     ensures bytes { WritesText (U.held sink.old) (U.held sink.new) result (summary study.now (R.rows rows.now) ending.now) }
     ensures cause { HasCause (U.faults sink.old) (U.faults sink.new) result }
 {
-    let mut buffer = Buffer::new();
-    put_ending(ending, &mut buffer, sink);
-    put_counts(rows.count(), repeat_count(rows), &mut buffer, sink);
-    put_best(study, rows, &mut buffer, sink);
-    buffer.finish(sink)
+    let mut writer = Writer::new(sink);
+    put_ending(ending, &mut writer);
+    put_counts(rows.count(), repeat_count(rows), &mut writer);
+    put_best(study, rows, &mut writer);
+    writer.finish()
 }
 
-fn put_ending<U: Sink>(ending: &Ending, buffer: &mut Buffer, sink: &mut U)
-    ensures { CarriesOn (flow (U.held sink.old) (U.faults sink.old) buffer.old) (flow (U.held sink.new) (U.faults sink.new) buffer.new) (ending_line ending.now) }
+fn put_ending<U: Sink>(ending: &Ending, writer: &mut Writer<'_, U>)
+    ensures { Puts U.held U.faults writer.old writer.new (ending_line ending.now) }
 {
     match ending {
-        Ending::Finished(why) => put_finished(*why, buffer, sink),
+        Ending::Finished(why) => put_finished(*why, writer),
         Ending::Aborted {
             evaluation,
             attempts,
-        } => put_aborted(*evaluation, *attempts, buffer, sink),
+        } => put_aborted(*evaluation, *attempts, writer),
     }
 }
 
-fn put_finished<U: Sink>(why: Why, buffer: &mut Buffer, sink: &mut U)
-    ensures { CarriesOn (flow (U.held sink.old) (U.faults sink.old) buffer.old) (flow (U.held sink.new) (U.faults sink.new) buffer.new) (ending_line (Finished why)) }
+fn put_finished<U: Sink>(why: Why, writer: &mut Writer<'_, U>)
+    ensures { Puts U.held U.faults writer.old writer.new (ending_line (Finished why)) }
 {
-    buffer.put(b"<<<<< Study finished: ", sink);
-    buffer.put(why_name(why), sink);
-    buffer.put(b"\n", sink);
+    writer.put(b"<<<<< Study finished: ");
+    writer.put(why_name(why));
+    writer.put(b"\n");
 }
 
 fn why_name(why: Why) -> &'static [u8]
@@ -65,38 +65,38 @@ fn why_name(why: Why) -> &'static [u8]
     }
 }
 
-fn put_aborted<U: Sink>(evaluation: u32, attempts: u32, buffer: &mut Buffer, sink: &mut U)
-    ensures { CarriesOn (flow (U.held sink.old) (U.faults sink.old) buffer.old) (flow (U.held sink.new) (U.faults sink.new) buffer.new) (ending_line (Aborted evaluation attempts)) }
+fn put_aborted<U: Sink>(evaluation: u32, attempts: u32, writer: &mut Writer<'_, U>)
+    ensures { Puts U.held U.faults writer.old writer.new (ending_line (Aborted evaluation attempts)) }
 {
-    buffer.put(b"<<<<< Study aborted: evaluation ", sink);
-    put_number(evaluation as usize, buffer, sink);
-    buffer.put(b" failed, attempts ", sink);
-    put_number(attempts as usize, buffer, sink);
-    buffer.put(b"\n", sink);
+    writer.put(b"<<<<< Study aborted: evaluation ");
+    put_number(evaluation as usize, writer);
+    writer.put(b" failed, attempts ");
+    put_number(attempts as usize, writer);
+    writer.put(b"\n");
 }
 
-fn put_counts<U: Sink>(total: u32, repeated: u32, buffer: &mut Buffer, sink: &mut U)
+fn put_counts<U: Sink>(total: u32, repeated: u32, writer: &mut Writer<'_, U>)
     requires { repeated ≤ total }
-    ensures { CarriesOn (flow (U.held sink.old) (U.faults sink.old) buffer.old) (flow (U.held sink.new) (U.faults sink.new) buffer.new) (counts_line total repeated) }
+    ensures { Puts U.held U.faults writer.old writer.new (counts_line total repeated) }
 {
-    buffer.put(b"<<<<< Function evaluation summary: ", sink);
-    put_number(total as usize, buffer, sink);
-    buffer.put(b" total (", sink);
-    put_number((total - repeated) as usize, buffer, sink);
-    buffer.put(b" new, ", sink);
-    put_number(repeated as usize, buffer, sink);
-    buffer.put(b" duplicate)\n", sink);
+    writer.put(b"<<<<< Function evaluation summary: ");
+    put_number(total as usize, writer);
+    writer.put(b" total (");
+    put_number((total - repeated) as usize, writer);
+    writer.put(b" new, ");
+    put_number(repeated as usize, writer);
+    writer.put(b" duplicate)\n");
 }
 
 /// Puts the lines of the best row, where there is one.
-fn put_best<R: Rows, U: Sink>(study: &Study, rows: &R, buffer: &mut Buffer, sink: &mut U)
+fn put_best<R: Rows, U: Sink>(study: &Study, rows: &R, writer: &mut Writer<'_, U>)
     requires { HaveWidths study.now (R.rows rows.now) }
-    ensures { CarriesOn (flow (U.held sink.old) (U.faults sink.old) buffer.old) (flow (U.held sink.new) (U.faults sink.new) buffer.new) (best_text study.now (R.rows rows.now) (best_place study.now (R.rows rows.now))) }
+    ensures { Puts U.held U.faults writer.old writer.new (best_text study.now (R.rows rows.now) (best_place study.now (R.rows rows.now))) }
 {
     let Some(row) = best(study, rows) else {
         return;
     };
-    put_best_lines(study, row, rows.point(row), rows.values(row), buffer, sink);
+    put_best_lines(study, row, rows.point(row), rows.values(row), writer);
 }
 
 fn put_best_lines<U: Sink>(
@@ -104,29 +104,22 @@ fn put_best_lines<U: Sink>(
     number: u32,
     point: &[Dec],
     values: &[Dec],
-    buffer: &mut Buffer,
-    sink: &mut U,
+    writer: &mut Writer<'_, U>,
 )
-    ensures { CarriesOn (flow (U.held sink.old) (U.faults sink.old) buffer.old) (flow (U.held sink.new) (U.faults sink.new) buffer.new) (best_lines study.now number (record { point = point.now; values = values.now })) }
+    ensures { Puts U.held U.faults writer.old writer.new (best_lines study.now number (record { point = point.now; values = values.now })) }
 {
-    buffer.put(b"<<<<< Best evaluation: ", sink);
-    put_number(number as usize, buffer, sink);
-    buffer.put(b"\n<<<<< Best parameters: ", sink);
-    put_settings(b"", study.variables.labels.items(), point, buffer, sink);
-    buffer.put(b"\n<<<<< Best objective function: ", sink);
-    put_settings(b"", study.responses.labels.items(), values, buffer, sink);
-    buffer.put(b"\n", sink);
+    writer.put(b"<<<<< Best evaluation: ");
+    put_number(number as usize, writer);
+    writer.put(b"\n<<<<< Best parameters: ");
+    put_settings(b"", study.variables.labels.items(), point, writer);
+    writer.put(b"\n<<<<< Best objective function: ");
+    put_settings(b"", study.responses.labels.items(), values, writer);
+    writer.put(b"\n");
 }
 
 /// Puts LABEL = VALUE for each label: the first after this text, and each of the others after a comma.
-fn put_settings<U: Sink>(
-    before: &[u8],
-    labels: &[Text],
-    values: &[Dec],
-    buffer: &mut Buffer,
-    sink: &mut U,
-)
-    ensures { CarriesOn (flow (U.held sink.old) (U.faults sink.old) buffer.old) (flow (U.held sink.new) (U.faults sink.new) buffer.new) (settings_after before.now labels.now values.now) }
+fn put_settings<U: Sink>(before: &[u8], labels: &[Text], values: &[Dec], writer: &mut Writer<'_, U>)
+    ensures { Puts U.held U.faults writer.old writer.new (settings_after before.now labels.now values.now) }
 {
     let Some((label, labels)) = labels.split_first() else {
         return;
@@ -134,15 +127,15 @@ fn put_settings<U: Sink>(
     let Some((value, values)) = values.split_first() else {
         return;
     };
-    buffer.put(before, sink);
-    put_setting(label, value, buffer, sink);
-    put_settings(b", ", labels, values, buffer, sink);
+    writer.put(before);
+    put_setting(label, value, writer);
+    put_settings(b", ", labels, values, writer);
 }
 
-fn put_setting<U: Sink>(label: &Text, value: &Dec, buffer: &mut Buffer, sink: &mut U)
-    ensures { CarriesOn (flow (U.held sink.old) (U.faults sink.old) buffer.old) (flow (U.held sink.new) (U.faults sink.new) buffer.new) (setting label.now value.now) }
+fn put_setting<U: Sink>(label: &Text, value: &Dec, writer: &mut Writer<'_, U>)
+    ensures { Puts U.held U.faults writer.old writer.new (setting label.now value.now) }
 {
-    buffer.put(label.as_str().as_bytes(), sink);
-    buffer.put(b" = ", sink);
-    put_decimal(value, buffer, sink);
+    writer.put(label.as_str().as_bytes());
+    writer.put(b" = ");
+    put_decimal(value, writer);
 }

@@ -114,7 +114,7 @@ struct Told {
     best: Option<u32>,
 }
 
-fn tell(
+fn write_both(
     rt: &impl Abort,
     alloc: Global,
     study: &Study,
@@ -203,7 +203,7 @@ fn rows_are_told(rt: HostRuntime) -> Result<(), Fail> {
     ];
     let study = study(alloc, &["obj_fn"], true, Some("t.dat"))?;
     for (lines, ending, table, summary, best) in cases {
-        let told = tell(&rt, alloc, &study, lines, &ending)?;
+        let told = write_both(&rt, alloc, &study, lines, &ending)?;
         assert_eq!(rt; told.table.name(), Some("t.dat"));
         assert_eq!(rt; told.table.taken(), table.as_bytes());
         assert_eq!(rt; told.summary.taken(), summary.as_bytes());
@@ -234,7 +234,7 @@ fn other_studies_have_no_best_row_or_no_table(rt: HostRuntime) -> Result<(), Fai
         let study = study(alloc, &responses, objectives, name)?;
         let lines: [Numbers; 1] = [(&["0", "-1e3"], &["1", "2"])];
         let ending = Ending::Finished(Why::Evaluations);
-        let told = tell(&rt, alloc, &study, &lines, &ending)?;
+        let told = write_both(&rt, alloc, &study, &lines, &ending)?;
         assert_eq!(rt; told.table.name(), name);
         assert_eq!(rt; told.table.taken(), table.as_bytes());
         assert_eq!(rt; told.summary.taken(), TWO_TOLD.as_bytes());

@@ -13,13 +13,13 @@ use Rattle.dk_types.specs.declared.study.Why.{Why}
 use Rattle.dk_types.specs.declared.rows.Row.{Row}
 use Rattle.dk_types.specs.declared.planner.Plan.TheVariants.{Batch, Finished as Planned_Finished}
 use Rattle.dk_types.specs.Points.{point, size}
-use Rattle.dk_types.specs.Planned.{At, Over, Next, next, rest, plan, plan_by, Answers, AnswersLast}
+use Rattle.dk_types.specs.Planned.{At, Over, Next, next, rest, plan, plan_by, AnswersBatch, AnswersLast}
 use Rattle.dk_types.specs.Answers.{Value, Dead, answer_by}
-use Rattle.dk_types.specs.Solo.{Solo, aborted, goes_on, Child, answers_of, Ended}
+use Rattle.dk_types.specs.Solo.{Solo, aborted, goes_on, Child, outcomes_of, Ended}
 use Rattle.dk_types.proofs.Once.{next_at}
 use Rattle.dk_types.specs.Planned.{points_from}
 use Rattle.dk_types.specs.declared.study.Why.TheVariants.{Complete}
-use Rattle.dk_method.specs.Plans.{Planned}
+use Rattle.dk_method.specs.Plans.{PlanningState}
 use Rattle.dk_runner.specs.Evaluated.{LeadsOn, GetsRow, EndsStudy}
 
 pub leads_itself : (study : Study) (child : Child) (rows : List Row) → LeadsOn study child rows rows
@@ -36,14 +36,14 @@ next_point study rows n count left =
 
 -- a point with values is a row
 one_row : (study : Study) (child : Child) (rows more : List Row) (n : ℕ) (p v : List Decimal) →
-    length rows ≡ n → n < size study → p ≡ point study n → answer_by study.interface.rule (answers_of child p) ≡ Value v → more ≡ rows ++ record { point = p; values = v } ∷ [] → LeadsOn study child rows more
+    length rows ≡ n → n < size study → p ≡ point study n → answer_by study.interface.rule (outcomes_of child p) ≡ Value v → more ≡ rows ++ record { point = p; values = v } ∷ [] → LeadsOn study child rows more
 one_row study child rows more n p v count left is answer pushed = record {
   on = λ last ending solo. goes_on rows p v last (Ended ending) (next_point study rows n count left ∙ ap At (sym is)) answer (subst (λ (l : List Row). Solo study child l last ending) pushed solo);
 }
 
 -- a point without values ends the study
 stopped : (study : Study) (child : Child) (rows : List Row) (n : ℕ) (p : List Decimal) (attempts : ℕ) →
-    length rows ≡ n → n < size study → p ≡ point study n → answer_by study.interface.rule (answers_of child p) ≡ Dead attempts → Solo study child rows rows (Aborted (length rows + 1) attempts)
+    length rows ≡ n → n < size study → p ≡ point study n → answer_by study.interface.rule (outcomes_of child p) ≡ Dead attempts → Solo study child rows rows (Aborted (length rows + 1) attempts)
 stopped study child rows n p attempts count left is answer = aborted rows p attempts (next_point study rows n count left ∙ ap At (sym is)) answer
 
 -- a point of what is left
@@ -73,7 +73,7 @@ batch_point study old batch before first row p is count from h =
 
 -- the rows of the first points of a batch, behind those of before
 pub record IsAlong (study : Study) (child : Child) (old : List Row) (k : ℕ) (rows : List Row) : Type 0 where
-  pub answers : Answers old (take k (rest study old)) rows
+  pub answers : AnswersBatch old (take k (rest study old)) rows
   pub leads : LeadsOn study child old rows
 
 pub along_none : (study : Study) (child : Child) (old : List Row) → IsAlong study child old 0 old
@@ -121,7 +121,7 @@ along_ended study child old rows more k p q ending same h ends was =
 
 -- behind its last point a batch has all its rows
 pub along_all : (study : Study) (child : Child) (old rows : List Row) (k : ℕ) → length (rest study old) ≤ k → IsAlong study child old k rows →
-    Answers old (rest study old) rows × LeadsOn study child old rows
+    AnswersBatch old (rest study old) rows × LeadsOn study child old rows
 along_all study child old rows k all was = (
   record {
     behind = was.answers.behind;
@@ -132,12 +132,12 @@ along_all study child old rows k all was = (
 )
 
 -- so far the rows are those that the planner's batches asked for
-pub record IsUnderWay (study : Study) (child : Child) (planned : Planned) (rows : List Row) : Type 0 where
+pub record IsUnderWay (study : Study) (child : Child) (planned : PlanningState) (rows : List Row) : Type 0 where
   pub study_is : planned.study ≡ study
   pub answered : AnswersLast (λ given. length given ≡ planned.before) (points_from planned.study planned.before planned.count) rows
   pub leads : LeadsOn study child [] rows
 
-pub under_way_first : (study : Study) (child : Child) (planned : Planned) (rows : List Row) → planned ≡ record { study = study; before = 0; count = 0 } → rows ≡ [] → IsUnderWay study child planned rows
+pub under_way_first : (study : Study) (child : Child) (planned : PlanningState) (rows : List Row) → planned ≡ record { study = study; before = 0; count = 0 } → rows ≡ [] → IsUnderWay study child planned rows
 under_way_first study child planned rows is none = rw (is, none) (record {
   study_is = refl;
   answered = record { before = []; given = refl; answers = record { behind = []; split = refl; points = refl } };
@@ -165,16 +165,16 @@ end_is study rows why h = at (next study rows) refl h
     at (Over other) e k = e ∙ ap Over (let s : other ≡ why = cc in s)
 
 -- behind a batch with all its rows
-pub under_way_more : (study : Study) (child : Child) (planned : Planned) (old rows : List Row) → planned.study ≡ study → planned.before ≡ length old →
-    points_from planned.study planned.before planned.count ≡ rest study old → Answers old (rest study old) rows → LeadsOn study child old rows → LeadsOn study child [] old → IsUnderWay study child planned rows
+pub under_way_more : (study : Study) (child : Child) (planned : PlanningState) (old rows : List Row) → planned.study ≡ study → planned.before ≡ length old →
+    points_from planned.study planned.before planned.count ≡ rest study old → AnswersBatch old (rest study old) rows → LeadsOn study child old rows → LeadsOn study child [] old → IsUnderWay study child planned rows
 under_way_more study child planned old rows is before batch answers leads was = record {
   study_is = is;
-  answered = record { before = old; given = sym before; answers = subst (λ (l : List (List Decimal)). Answers old l rows) (sym batch) answers };
+  answered = record { before = old; given = sym before; answers = subst (λ (l : List (List Decimal)). AnswersBatch old l rows) (sym batch) answers };
   leads = leads_both study child [] old rows was leads;
 }
 
 -- and with fewer points left
-pub fewer_left : (study : Study) (old rows : List Row) → length old < size study → Answers old (rest study old) rows → size study - length rows < size study - length old
+pub fewer_left : (study : Study) (old rows : List Row) → length old < size study → AnswersBatch old (rest study old) rows → size study - length rows < size study - length old
 fewer_left study old rows left answers =
     let long = rest_long study old in
     let a = ap length answers.split ∙ length-append old answers.behind in

@@ -1,6 +1,5 @@
 pub mod Accepts
 pub mod Complete
-pub mod Decided
 pub mod Evaluations
 pub mod Reported
 pub mod Saying

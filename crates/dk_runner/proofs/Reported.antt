@@ -5,9 +5,10 @@ use Rattle.dk_types.specs.declared.study.Study.{Study}
 use Rattle.dk_types.specs.declared.study.Ending.{Ending}
 use Rattle.dk_types.specs.declared.rows.Row.{Row}
 use Rattle.dk_types.specs.Solo.{Solo, rosenbrock_child}
-use Rattle.dk_runner.specs.Words.{IsRun}
+use Rattle.dk_runner.specs.Words.{IsFor}
 use Rattle.dk_runner.specs.Accepted.{Accepts}
 use Rattle.dk_runner.specs.Endings.{Scene, EndsSo, Reports}
+use Rattle.dk_runner.specs.declared.purpose.Purpose.TheVariants.{Run}
 use Rattle.dk_runner.specs.declared.status.Status.{Status}
 use Rattle.dk_runner.specs.declared.status.Status.TheVariants.{Finished, Aborted, Usage, StudyRefused, SourceFault, SinkFault, NoMemory}
 use Rattle.dk_runner.specs.declared.status.Which.TheVariants.{Table, Out}
@@ -18,7 +19,7 @@ abbrev ReportsIn : Scene → Study → List Row → Ending → Status → Type 0
 ReportsIn s study rows ending status = Reports study rows ending s.table_old s.table_new s.table_before s.table_now s.out_old s.out_new s.out_before s.out_now status
 
 pub ends_so : (s : Scene) (untouched : Type 0) (study : Study) (rows : List Row) (ending : Ending) (status : Status) →
-    IsRun s.words × IfSome s.left (λ text. Accepts text study) → Solo study rosenbrock_child [] rows ending → ReportsIn s study rows ending status → EndsSo s untouched status
+    IsFor Run s.words × IfSome s.left (λ text. Accepts Run text study) → Solo study rosenbrock_child [] rows ending → ReportsIn s study rows ending status → EndsSo s untouched status
 ends_so s untouched study rows ending Finished reason alone h = (
   reason.0,
   told s.left (λ text accepts. record {

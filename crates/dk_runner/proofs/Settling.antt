@@ -13,7 +13,7 @@ use Rattle.dk_types.specs.declared.study.FailRule.TheVariants.{Abort, Retry, Rec
 use Rattle.dk_types.specs.Answers.{Answer, Next, answer_by, retries}
 use Rattle.dk_types.specs.Cards.{Card, card_said}
 use Rattle.dk_types.specs.EntryLaws.{is_answered}
-use Rattle.dk_types.specs.Solo.{Child, answers_of}
+use Rattle.dk_types.specs.Solo.{Child, outcomes_of}
 use Rattle.dk_types.specs.Sound.{IsSoundRule}
 use Rattle.dk_types.proofs.SummedUp.{says, card_failed, card_values, card_after}
 use Rattle.dk_types.proofs.CardAnswers.{due_in_time}
@@ -30,9 +30,9 @@ few_retries responses (Recover values) s = omega arith
 
 -- what a card's attempts come to, the child's come to
 pub settled : (rule : FailRule) (child : Child) (card : Card) (p : List Decimal) (a : Answer) → IsTrueTo child card → card.point ≡ p → answer_by rule (card_said card) ≡ a → is_answered a ≡ true →
-    answer_by rule (answers_of child p) ≡ a
+    answer_by rule (outcomes_of child p) ≡ a
 settled rule child card p a true_to is e h =
-    answer_stays rule (card_said card) (answers_of child p) (λ k one s. ap (λ q. Some (child q k)) (sym is) ∙ ap Some (sym (true_to k one s))) (ap is_answered e ∙ h) ∙ e
+    answer_stays rule (card_said card) (outcomes_of child p) (λ k one s. ap (λ q. Some (child q k)) (sym is) ∙ ap Some (sym (true_to k one s))) (ap is_answered e ∙ h) ∙ e
 
 -- The next attempt of a card
 
@@ -120,7 +120,7 @@ true_there P (c ∷ cards) zero card h all = subst P (let e : c ≡ card = cc in
 true_there P (c ∷ cards) (suc i) card h all = true_there P cards i card h (All-tail P c cards all)
 
 pub settled_there : (rule : FailRule) (child : Child) (old now : BookState) (index : ℕ) (p : List Decimal) (a : Answer) → IsSettling child old now index p → Some a ≡ answer_at rule now index → is_answered a ≡ true →
-    answer_by rule (answers_of child p) ≡ a
+    answer_by rule (outcomes_of child p) ≡ a
 settled_there rule child old now index p a was is h =
     settled rule child was.card p a (true_there (IsTrueTo child) now.cards index was.card was.there was.book.true_to) was.point_is (answer_there rule now index was.card a was.there is) h
 

@@ -4,31 +4,34 @@ use Rattle.std.specs.Prelude.{IfSome}
 use Rattle.dk_outside.specs.Causes.{Rose}
 use Rattle.dk_types.specs.declared.study.Study.{Study}
 use Rattle.dk_reader.specs.declared.fault.StudyFault.{StudyFault}
-use Rattle.dk_runner.specs.Words.{IsRun}
+use Rattle.dk_runner.specs.Words.{IsFor}
 use Rattle.dk_runner.specs.Accepted.{Accepts, Refused}
 use Rattle.dk_runner.specs.Headline.{TellsRefusal}
 use Rattle.dk_runner.specs.Endings.{Scene, EndsSo}
+use Rattle.dk_runner.specs.declared.purpose.Purpose.{Purpose}
+use Rattle.dk_runner.specs.declared.purpose.Purpose.TheVariants.{Run}
 use Rattle.dk_runner.specs.declared.status.Status.{Status}
 use Rattle.dk_runner.specs.declared.status.Status.TheVariants.{Finished, Aborted, Usage, StudyRefused, SourceFault, SinkFault, NoMemory}
 use Rattle.dk_runner.specs.declared.status.Which.TheVariants.{Table, Out}
 use Rattle.dk_runner.proofs.Accepts.{not_both, one_refusal}
 use Rattle.dk_runner.proofs.Complete.{told, always, not_misused}
 
--- a text that gives a study isn't refused
-accepted : (text : List ℕ) (study : Study) (status : Status) → Accepts text study → TellsRefusal text status
-accepted text study status a = λ fault refused. absurd (not_both text study fault a refused)
+module _ (purpose : Purpose) where
+  -- a text that gives a study isn't refused
+  pub accepted : (text : List ℕ) (study : Study) (status : Status) → Accepts purpose text study → TellsRefusal purpose text status
+  accepted text study status a = λ fault refused. absurd (not_both purpose text study fault a refused)
 
--- a text that is refused is refused so
-refused_so : (text : List ℕ) (fault : StudyFault) → Refused text fault → TellsRefusal text (StudyRefused fault)
-refused_so text fault refused = λ other again. inl (ap StudyRefused (one_refusal text fault other refused again))
+  -- a text that is refused is refused so
+  pub refused_so : (text : List ℕ) (fault : StudyFault) → Refused purpose text fault → TellsRefusal purpose text (StudyRefused fault)
+  refused_so text fault refused = λ other again. inl (ap StudyRefused (one_refusal purpose text fault other refused again))
 
-pub refusal_told : (s : Scene) (untouched : Type 0) (status : Status) → EndsSo s untouched status → IsRun s.words →
-    (Rose s.source_before s.source_now → ⊥) → IfSome s.left (λ text. TellsRefusal text status)
-refusal_told s untouched Finished h run source = told s.left (λ text w. accepted text w.study Finished w.evaluates.accepts) h.1
-refusal_told s untouched Aborted h run source = told s.left (λ text w. accepted text w.study Aborted w.evaluates.accepts) h.1
-refusal_told s untouched (Usage at) h run source = absurd (not_misused s.words at run h.0)
-refusal_told s untouched (StudyRefused fault) h run source = told s.left (λ text refused. refused_so text fault refused) h.0.1
+pub refusal_told : (s : Scene) (untouched : Type 0) (status : Status) → EndsSo s untouched status → IsFor Run s.words →
+    (Rose s.source_before s.source_now → ⊥) → IfSome s.left (λ text. TellsRefusal Run text status)
+refusal_told s untouched Finished h run source = told s.left (λ text w. accepted Run text w.study Finished w.evaluates.accepts) h.1
+refusal_told s untouched Aborted h run source = told s.left (λ text w. accepted Run text w.study Aborted w.evaluates.accepts) h.1
+refusal_told s untouched (Usage at) h run source = not_misused Run s.words at run h.0
+refusal_told s untouched (StudyRefused fault) h run source = told s.left (λ text refused. refused_so Run text fault refused) h.0.1
 refusal_told s untouched SourceFault h run source = absurd (source h.0.1)
-refusal_told s untouched (SinkFault Table) h run source = told s.left (λ text w. accepted text w.study (SinkFault Table) w.evaluates.accepts) h.2
-refusal_told s untouched (SinkFault Out) h run source = told s.left (λ text w. accepted text w.study (SinkFault Out) w.evaluates.accepts) h.2
+refusal_told s untouched (SinkFault Table) h run source = told s.left (λ text w. accepted Run text w.study (SinkFault Table) w.evaluates.accepts) h.2
+refusal_told s untouched (SinkFault Out) h run source = told s.left (λ text w. accepted Run text w.study (SinkFault Out) w.evaluates.accepts) h.2
 refusal_told s untouched NoMemory h run source = always s.left (λ text fault refused. inr refl)

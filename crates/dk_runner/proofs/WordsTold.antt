@@ -4,7 +4,8 @@ use Rattle.std.specs.Prelude.{if◌then◌else◌, Option, Some, None, Result, O
 use Rattle.std.specs.List.{flat_map}
 use Rattle.std.specs.Option.{option_map, option_map_or, option_or}
 use Rattle.dk_grammar.specs.Lists.{first, when, places, places_after}
-use Rattle.dk_runner.specs.Words.{is_file, takes_file, same_option, Piece, pieces, is_of, piece_of, is_second, lacks_file, piece_faults, place_of, faults, commanded, command_of, Words, HasFault, Tells, EachCommandOrPlace, run_fault, check_fault, IsRun, IsCheck, EachCallIsCommanded}
+use Rattle.dk_runner.specs.declared.purpose.Purpose.TheVariants as purposes
+use Rattle.dk_runner.specs.Words.{is_file, takes_file, same_option, Piece, pieces, is_of, piece_of, is_second, lacks_file, piece_faults, place_of, faults, commanded, command_of, Words, HasFault, Tells, EachCommandOrPlace, run_fault, check_fault, IsFor, EachCallIsCommanded}
 use Rattle.dk_grammar.proofs.Growing.{no_first}
 use Rattle.dk_runner.specs.Sorting.{AreOptions}
 use Rattle.dk_runner.proofs.WordsSorted.{is_some-map}
@@ -139,7 +140,7 @@ module _ (words : List (List ℕ)) where
   abbrev stands : Bool
   stands = is_some (piece_of Check (pieces words))
 
-  run_commanded : IsRun words → (input : List ℕ) × Words words (command.Run input)
+  run_commanded : IsFor purposes.Run words → (input : List ℕ) × Words words (command.Run input)
   unfolding run_fault place_of
   run_commanded e =
       let none = none_first (first (faults words)) (option_map (λ p. p.at) (piece_of Check (pieces words))) e in
@@ -147,7 +148,7 @@ module _ (words : List (List ℕ)) where
       let c = commands words faultless in
       (c.0, record { faultless = faultless; commands = c.1 ∙ ap (λ b. Some (commanded b c.0)) (none_mapped (λ p. p.at) (piece_of Check (pieces words)) none.1) })
 
-  commanded_run : (input : List ℕ) → Words words (command.Run input) → IsRun words
+  commanded_run : (input : List ℕ) → Words words (command.Run input) → IsFor purposes.Run words
   unfolding run_fault place_of
   commanded_run input h =
       let c = commands words h.faultless in
@@ -155,7 +156,7 @@ module _ (words : List (List ℕ)) where
       let is : commanded stands c.0 ≡ command.Run input = cc in
       rw h.faultless (mapped_none (λ p. p.at) (piece_of Check (pieces words)) (runs stands c.0 input is))
 
-  check_commanded : IsCheck words → (input : List ℕ) × Words words (command.Check input)
+  check_commanded : IsFor purposes.Check words → (input : List ℕ) × Words words (command.Check input)
   unfolding check_fault place_of
   check_commanded e = by stands refl
     where
@@ -173,7 +174,7 @@ module _ (words : List (List ℕ)) where
           let some : Some name.0.at ≡ None = ap (option_map (λ p. p.at)) (sym name.1) ∙ ap (λ b. if b then None else option_map (λ p. p.at) (piece_of Input (pieces words))) (sym there) ∙ none.1 in
           absurd (cc)
 
-  commanded_check : (input : List ℕ) → Words words (command.Check input) → IsCheck words
+  commanded_check : (input : List ℕ) → Words words (command.Check input) → IsFor purposes.Check words
   unfolding check_fault place_of
   commanded_check input h =
       let c = commands words h.faultless in

@@ -1,43 +1,20 @@
 -- How a run ends, status by status. The clauses of the top call follow from it.
-use Rattle.std.specs.Prelude.{◌≡◌, ℕ, List, Option, Result, Ok, Err, IfSome}
+use Rattle.std.specs.Prelude.{◌≡◌, ℕ, List, Option, IfSome}
 use Rattle.dk_outside.specs.Causes.{Rose}
 use Rattle.dk_outside.specs.Sinks.{Held, Grows, GrowsByFront}
 use Rattle.dk_types.specs.declared.study.Study.{Study}
 use Rattle.dk_types.specs.declared.study.Ending.{Ending}
 use Rattle.dk_types.specs.declared.rows.Row.{Row}
 use Rattle.dk_types.specs.Texts.{table, summary}
-use Rattle.dk_runner.specs.Words.{IsRun, Misused}
-use Rattle.dk_runner.specs.Accepted.{Accepts, Refused, at_beginning}
+use Rattle.dk_runner.specs.Words.{IsFor}
+use Rattle.dk_runner.specs.Causes.{IsCause}
 use Rattle.dk_runner.specs.Lines.{line, status_of}
 use Rattle.dk_report.specs.Tables.{HasTable, HasFront}
 use Rattle.dk_runner.specs.Headline.{Written, BreaksTable, BreaksSummary, Says}
 use Rattle.dk_runner.specs.declared.status.Status.{Status}
-use Rattle.dk_runner.specs.declared.status.Status.TheVariants.{Finished, Aborted, Usage, StudyRefused, SourceFault, SinkFault, NoMemory}
-use Rattle.dk_reader.specs.declared.fault.StudyKind.{StudyKind}
+use Rattle.dk_runner.specs.declared.status.Status.TheVariants.{Finished, Aborted, SinkFault}
+use Rattle.dk_runner.specs.declared.purpose.Purpose.TheVariants.{Run}
 use Rattle.dk_runner.specs.declared.status.Which.TheVariants.{Table, Out}
-
-abbrev pub refused_as : StudyKind → Status
-refused_as kind = StudyRefused (at_beginning kind)
-
--- the study that a text gives, or why it gives none
-abbrev pub IsTextReason : List ℕ → Result Study Status → Type 0
-IsTextReason text (Ok study) = Accepts text study
-IsTextReason text (Err (StudyRefused fault)) = Refused text fault
-IsTextReason text (Err NoMemory) = Unit {0}
-IsTextReason text (Err _) = ⊥
-
--- why no study is evaluated
-abbrev pub IsCause : (words : List (List ℕ)) (left : Option (List ℕ)) (before now : ℕ) → Status → Type 0
-IsCause words left before now (Usage at) = Misused words at
-IsCause words left before now (StudyRefused fault) = IsRun words × IfSome left (λ text. Refused text fault)
-IsCause words left before now SourceFault = IsRun words × Rose before now
-IsCause words left before now NoMemory = IsRun words
-IsCause words left before now _ = ⊥
-
--- the words are a run's and the text is a study's, or the cause why not
-abbrev pub IsReason : (words : List (List ℕ)) (left : Option (List ℕ)) (before now : ℕ) → Result Study Status → Type 0
-IsReason words left before now (Ok study) = IsRun words × IfSome left (λ text. Accepts text study)
-IsReason words left before now (Err status) = IsCause words left before now status
 
 -- how the summary of a decided study was written
 abbrev pub Summarizes : Study → List Row → Ending → (out_old out_new : Option Held) (before now : ℕ) → Status → Type 0
@@ -89,11 +66,11 @@ SaysLine s status = Says s.out_old s.out_new s.out_before s.out_now (line status
 
 -- a run before whose end the table stays untouched
 abbrev pub EndsEarly : Scene → (untouched : Type 0) → Status → Type 0
-EndsEarly s untouched status = IsCause s.words s.left s.source_before s.source_now status × untouched × SaysLine s status
+EndsEarly s untouched status = IsCause Run s.words s.left s.source_before s.source_now status × untouched × SaysLine s status
 
 abbrev pub EndsSo : Scene → (untouched : Type 0) → Status → Type 0
-EndsSo s untouched Finished = IsRun s.words × IfSome s.left (λ text. Written text Finished s.table_old s.table_new s.out_old s.out_new)
-EndsSo s untouched Aborted = IsRun s.words × IfSome s.left (λ text. Written text Aborted s.table_old s.table_new s.out_old s.out_new)
-EndsSo s untouched (SinkFault Table) = IsRun s.words × Rose s.table_before s.table_now × IfSome s.left (λ text. BreaksTable text s.table_old s.table_new) × SaysLine s (SinkFault Table)
-EndsSo s untouched (SinkFault Out) = IsRun s.words × Rose s.out_before s.out_now × IfSome s.left (λ text. BreaksSummary text s.table_old s.table_new s.out_old s.out_new)
+EndsSo s untouched Finished = IsFor Run s.words × IfSome s.left (λ text. Written text Finished s.table_old s.table_new s.out_old s.out_new)
+EndsSo s untouched Aborted = IsFor Run s.words × IfSome s.left (λ text. Written text Aborted s.table_old s.table_new s.out_old s.out_new)
+EndsSo s untouched (SinkFault Table) = IsFor Run s.words × Rose s.table_before s.table_now × IfSome s.left (λ text. BreaksTable text s.table_old s.table_new) × SaysLine s (SinkFault Table)
+EndsSo s untouched (SinkFault Out) = IsFor Run s.words × Rose s.out_before s.out_now × IfSome s.left (λ text. BreaksSummary text s.table_old s.table_new s.out_old s.out_new)
 EndsSo s untouched status = EndsEarly s untouched status

@@ -1,5 +1,5 @@
--- What holds of the studies that are evaluated so far, and of an evaluation over a book, point after point.
-use Rattle.std.specs.Prelude.{◌≡◌, ℕ, ◌+◌, ◌<◌, ◌≤◌, true, List, [], ◌∷◌, ◌++◌, length, map, position, slice_get, slice_set, get_or, Option, Some, None, if◌then◌else◌, ◌==◌}
+-- What holds of an evaluation over a book, point after point.
+use Rattle.std.specs.Prelude.{◌≡◌, ℕ, ◌+◌, ◌<◌, ◌≤◌, List, [], ◌∷◌, ◌++◌, length, map, position, slice_get, slice_set, get_or, Option, Some, None, if◌then◌else◌, ◌==◌}
 use Rattle.std.specs.List.{All}
 use Rattle.dk_num.specs.Decimal.{Decimal}
 use Rattle.dk_types.specs.declared.study.Study.{Study}
@@ -10,21 +10,15 @@ use Rattle.dk_types.specs.declared.entry.Said.{Said}
 use Rattle.dk_types.specs.declared.entry.Said.TheVariants.{Values, Failed}
 use Rattle.dk_types.specs.declared.rows.Row.{Row}
 use Rattle.dk_types.specs.Best.{same_point}
-use Rattle.dk_types.specs.Planned.{Answers}
+use Rattle.dk_types.specs.Planned.{AnswersBatch}
 use Rattle.dk_types.specs.Answers.{Value, Dead, answer_by}
 use Rattle.dk_types.specs.Cards.{Card, card_said, place_of}
-use Rattle.dk_types.specs.Solo.{Solo, Child, answers_of}
-use Rattle.dk_types.specs.Sound.{IsSound}
+use Rattle.dk_types.specs.Solo.{Solo, Child, outcomes_of}
 use Rattle.dk_book.specs.Books.{BookState, IsBook}
-use Rattle.dk_runner.specs.Accepted.{is_built}
 use Rattle.dk_runner.specs.declared.evaluate.Evaluation.{Evaluation}
 use Rattle.dk_runner.specs.declared.evaluator.Reading.{Reading}
 use Rattle.dk_runner.specs.declared.evaluator.Reading.TheVariants as reading
 use Rattle.dk_report.specs.Widths.{HaveWidths}
-
-pub record IsEvaluated (study : Study) : Type 0 where
-  pub sound : IsSound study
-  pub built : is_built study ≡ true
 
 -- as the study ends from the new rows on, it ends from the old ones on
 pub record LeadsOn (study : Study) (child : Child) (old new : List Row) : Type 0 where
@@ -32,7 +26,7 @@ pub record LeadsOn (study : Study) (child : Child) (old new : List Row) : Type 0
 
 -- each point of the batch got its row, and the study goes on from them; or it ended with these rows
 abbrev pub EndsBatch : Study → Child → List (List Decimal) → (old new : List Row) → Option Ending → Type 0
-EndsBatch study child batch old new None = Answers old batch new × LeadsOn study child old new
+EndsBatch study child batch old new None = AnswersBatch old batch new × LeadsOn study child old new
 EndsBatch study child batch old new (Some ending) = Solo study child old new ending
 
 -- what an attempt of a point gives, as it is read: values, which were written, or none
@@ -46,8 +40,8 @@ IsTrueTo child card = (attempt : ℕ) (one : Said) → card_said card attempt �
 
 -- what a point's attempts come to, where the child answers each: its values, or its end after so many attempts
 abbrev pub Settles : FailRule → Child → List Decimal → (values : List Decimal) → Option ℕ → Type 0
-Settles rule child p values None = answer_by rule (answers_of child p) ≡ Value values
-Settles rule child p values (Some attempts) = answer_by rule (answers_of child p) ≡ Dead attempts
+Settles rule child p values None = answer_by rule (outcomes_of child p) ≡ Value values
+Settles rule child p values (Some attempts) = answer_by rule (outcomes_of child p) ≡ Dead attempts
 
 -- the points of cards
 abbrev pub points_of : List Card → List (List Decimal)
@@ -104,12 +98,12 @@ pub record IsSoFar (study : Study) (child : Child) (run : Evaluation) : Type 0 w
 -- the point got its row, with what its attempts come to; or these end the study
 pub record GetsRow (study : Study) (child : Child) (p : List Decimal) (old new : List Row) : Type 0 where
   pub values : List Decimal
-  pub answer : answer_by study.interface.rule (answers_of child p) ≡ Value values
+  pub answer : answer_by study.interface.rule (outcomes_of child p) ≡ Value values
   pub rows : new ≡ old ++ record { point = p; values = values } ∷ []
 
 pub record EndsStudy (study : Study) (child : Child) (p : List Decimal) (old new : List Row) (ending : Ending) : Type 0 where
   pub attempts : ℕ
-  pub answer : answer_by study.interface.rule (answers_of child p) ≡ Dead attempts
+  pub answer : answer_by study.interface.rule (outcomes_of child p) ≡ Dead attempts
   pub ending_is : ending ≡ Aborted (length old + 1) attempts
   pub rows : new ≡ old
 

@@ -1,5 +1,5 @@
 -- What a run has written, and why it ended so.
-use Rattle.std.specs.Prelude.{◌≡◌, ◌⊎◌, ℕ, List, [], Option, Some, IfSome}
+use Rattle.std.specs.Prelude.{◌≡◌, ◌⊎◌, ℕ, List, [], Option, Some, None, IfSome}
 use Rattle.dk_outside.specs.Causes.{Rose}
 use Rattle.dk_outside.specs.Sinks.{Held, Grows, GrowsByFront, with_more}
 use Rattle.dk_types.specs.declared.study.Study.{Study}
@@ -8,7 +8,10 @@ use Rattle.dk_types.specs.declared.rows.Row.{Row}
 use Rattle.dk_types.specs.Solo.{Solo, rosenbrock_child}
 use Rattle.dk_types.specs.Texts.{table, summary}
 use Rattle.dk_report.specs.Tables.{HasTable, HasFront}
+use Rattle.dk_reader.specs.Reading.{Reads}
 use Rattle.dk_runner.specs.Accepted.{Accepts, Refused}
+use Rattle.dk_runner.specs.declared.purpose.Purpose.{Purpose}
+use Rattle.dk_runner.specs.declared.purpose.Purpose.TheVariants.{Run}
 use Rattle.dk_runner.specs.Lines.{status_of}
 use Rattle.dk_runner.specs.declared.status.Status.{Status}
 use Rattle.dk_runner.specs.declared.status.Status.TheVariants.{StudyRefused, NoMemory}
@@ -16,7 +19,7 @@ use Rattle.dk_reader.specs.declared.fault.StudyFault.{StudyFault}
 
 -- a study's text, its rows and its ending, where it is evaluated one point at a time
 pub record Evaluates (text : List ℕ) (study : Study) (rows : List Row) (ending : Ending) : Type 0 where
-  pub accepts : Accepts text study
+  pub accepts : Accepts Run text study
   pub alone : Solo study rosenbrock_child [] rows ending
 
 -- the table and the summary are written whole
@@ -55,10 +58,14 @@ abbrev pub Says : (old new : Option Held) (before now : ℕ) → List ℕ → Ty
 Says old new before now text = Grows old new text ⊎ (Rose before now × GrowsByFront old new text)
 
 -- where the text is refused the status says so, unless memory ran out
-abbrev pub TellsRefusal : List ℕ → Status → Type 0
-TellsRefusal text status = (fault : StudyFault) → Refused text fault → (status ≡ StudyRefused fault) ⊎ (status ≡ NoMemory)
+abbrev pub TellsRefusal : Purpose → List ℕ → Status → Type 0
+TellsRefusal purpose text status = (fault : StudyFault) → Refused purpose text fault → (status ≡ StudyRefused fault) ⊎ (status ≡ NoMemory)
 
 -- where the text is a study's the status is that of its evaluation, unless memory ran out
 abbrev pub EndsAsEvaluated : List ℕ → Status → Type 0
 EndsAsEvaluated text status =
     (study : Study) (rows : List Row) (ending : Ending) → Evaluates text study rows ending → (status ≡ status_of ending) ⊎ (status ≡ NoMemory)
+
+-- where the text says a study that asks for no table, this stands
+abbrev pub WithoutTable : List ℕ → Type 0 → Type 0
+WithoutTable text untouched = (study : Study) → Reads text study → study.table ≡ None → untouched

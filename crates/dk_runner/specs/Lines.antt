@@ -1,5 +1,5 @@
 -- The line of a status on `out`, and the exit status.
-use Rattle.std.specs.Prelude.{ℕ, Bool, true, false, List, [], ◌++◌, codes, decimal}
+use Rattle.std.specs.Prelude.{ℕ, Bool, true, false, not, List, [], ◌++◌, codes, decimal}
 use Rattle.dk_types.specs.declared.study.Ending.{Ending}
 use Rattle.dk_types.specs.declared.study.Ending.TheVariants.{Finished as EndingFinished, Aborted as EndingAborted}
 use Rattle.dk_runner.specs.declared.status.Status.{Status}
@@ -64,6 +64,18 @@ is_early (StudyRefused fault) = true
 is_early SourceFault = true
 is_early NoMemory = true
 is_early _ = false
+
+abbrev pub is_too_long : StudyKind → Bool
+is_too_long kinds.TooLong = true
+is_too_long _ = false
+
+-- the study's text was taken to its end
+abbrev pub is_read : Status → Bool
+is_read Finished = true
+is_read Aborted = true
+is_read (StudyRefused fault) = not (is_too_long fault.kind)
+is_read (SinkFault which) = true
+is_read _ = false
 
 -- `out` got the line of the status
 abbrev pub has_line : Status → Bool

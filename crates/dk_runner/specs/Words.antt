@@ -10,6 +10,8 @@ use Rattle.dk_runner.specs.declared.commands.Command.{Command}
 use Rattle.dk_runner.specs.declared.commands.Command.TheVariants as command
 use Rattle.dk_runner.specs.declared.commands.CommandFault.{CommandFault}
 use Rattle.dk_runner.specs.declared.commands.CommandFault.TheVariants.{Usage, NoMemory}
+use Rattle.dk_runner.specs.declared.purpose.Purpose.{Purpose}
+use Rattle.dk_runner.specs.declared.purpose.Purpose.TheVariants as purposes
 
 -- a file's name isn't empty, and doesn't begin with a dash
 abbrev pub is_file : List ℕ → Bool
@@ -129,23 +131,22 @@ EachFaultInOrder = (words : List (List ℕ)) → AreInOrder 1 (length words + 1)
 unfoldable pub run_fault : List (List ℕ) → Option ℕ
 run_fault words = option_or (first (faults words)) (place_of Check words)
 
-abbrev pub Misused : List (List ℕ) → ℕ → Type 0
-Misused words at = run_fault words ≡ Some at
-
-abbrev pub IsRun : List (List ℕ) → Type 0
-IsRun words = run_fault words ≡ None
-
 -- where words aren't those of a check: at their first fault, or else at `-i` or `-input` where no `-check` stands
 unfoldable pub check_fault : List (List ℕ) → Option ℕ
 check_fault words = option_or (first (faults words)) (if is_some (place_of Check words) then None else place_of Input words)
 
-abbrev pub MisusedCheck : List (List ℕ) → ℕ → Type 0
-MisusedCheck words at = check_fault words ≡ Some at
+-- where words aren't those of a run, or of a check
+abbrev pub fault_for : Purpose → List (List ℕ) → Option ℕ
+fault_for purposes.Run words = run_fault words
+fault_for purposes.Check words = check_fault words
 
-abbrev pub IsCheck : List (List ℕ) → Type 0
-IsCheck words = check_fault words ≡ None
+abbrev pub Misused : Purpose → List (List ℕ) → ℕ → Type 0
+Misused purpose words at = fault_for purpose words ≡ Some at
+
+abbrev pub IsFor : Purpose → List (List ℕ) → Type 0
+IsFor purpose words = fault_for purpose words ≡ None
 
 -- words are a run's where they command one, and a check's where they command that
 abbrev pub EachCallIsCommanded : Type 0
 EachCallIsCommanded =
-    (words : List (List ℕ)) → (IsRun words ↔ ((input : List ℕ) × Words words (command.Run input))) × (IsCheck words ↔ ((input : List ℕ) × Words words (command.Check input)))
+    (words : List (List ℕ)) → (IsFor purposes.Run words ↔ ((input : List ℕ) × Words words (command.Run input))) × (IsFor purposes.Check words ↔ ((input : List ℕ) × Words words (command.Check input)))

@@ -3,7 +3,7 @@ use dk_types::Text;
 use thiserror::Error;
 
 /// What the program is to do.
-#[derive(Drop)]
+#[derive(Debug, Drop)]
 pub enum Command {
     /// Evaluate the study of a file.
     Run { input: Text },

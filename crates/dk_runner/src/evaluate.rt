@@ -3,7 +3,7 @@ ghost use Rattle.std.specs.Prelude.{◌≡◌, ◌+◌, ◌<◌, ◌≤◌, [], 
 ghost use Rattle.dk_types.specs.Planned.{rest};
 ghost use Rattle.dk_types.specs.Sound.{IsSound};
 ghost use Rattle.dk_types.specs.Solo.{Solo, Child};
-ghost use Rattle.dk_method.specs.Plans.{has_points};
+ghost use Rattle.dk_types.specs.Points.{has_points};
 ghost use Rattle.dk_report.specs.Widths.{HaveWidths};
 ghost use Rattle.dk_runner.specs.Evaluated.{IsSoFar, EndsBatch, EndsPoint, TakesNumber};
 
@@ -82,6 +82,7 @@ fn evaluate_batches<E: Evaluator>(
     run: &mut Evaluation,
 ) -> Ending
     requires sound { IsSound study.now }
+    requires points { has_points study.now.method ≡ true }
     requires responses { E.responses evaluator.now ≡ length study.now.responses.labels }
     requires planned { planning.old ≡ record { study = study.now; before = 0; count = 0 } }
     requires so_far { IsSoFar study.now (E.child evaluator.now) run.old }

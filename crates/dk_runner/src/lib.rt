@@ -2,12 +2,14 @@
 //! the summary.
 #![tactic(auto)]
 
+mod accept;
 mod built;
 mod checks;
 mod commands;
 mod evaluate;
 mod evaluator;
 pub mod laws;
+mod purpose;
 mod refusal;
 mod rows;
 mod run;
@@ -21,7 +23,8 @@ pub use checks::check;
 pub use commands::{Command, CommandFault};
 pub use dk_lex::Span;
 pub use dk_reader::{StudyFault, StudyKind};
-pub use refusal::{say, usage};
+pub use purpose::Purpose;
+pub use refusal::{usage, write_line};
 pub use run::{Ended, dakota};
 pub use status::{Status, Which};
 pub use words::command;

@@ -1,77 +1,83 @@
 // The line of a status.
 ghost use Rattle.std.specs.Prelude.{◌≡◌};
-ghost use Rattle.dk_outside.specs.Flows.{flow, CarriesOn};
+ghost use Rattle.dk_outside.specs.Flows.{Puts};
 ghost use Rattle.dk_runner.specs.Lines.{line, kind_text};
 ghost use Rattle.dk_runner.specs.Headline.{Says, OnlyGrows};
 ghost use Rattle.dk_runner.specs.declared.status.Status.TheVariants.{Usage, StudyRefused, SinkFault};
 
 use crate::{Status, StudyFault, StudyKind, Which};
-use dk_outside::{Buffer, Sink};
+use dk_outside::{Sink, Writer};
+use dk_report::put_number;
 
 /// Writes the status's line, or as much of it as the sink takes.
-pub fn say<U: Sink>(status: &Status, out: &mut U)
+pub fn write_line<U: Sink>(status: &Status, out: &mut U)
     ensures grows { OnlyGrows (U.held out.old) (U.held out.new) }
     ensures says { Says (U.held out.old) (U.held out.new) (U.faults out.old) (U.faults out.new) (line status.now) }
 {
-    let mut buffer = Buffer::new();
-    put_line(status, &mut buffer, out);
-    let _ = buffer.finish(out);
+    let mut writer = Writer::new(out);
+    put_line(status, &mut writer);
+    let _ = writer.finish();
 }
 
-/// Says that the words of the command line have their first fault at this place, and answers so.
+/// Writes the line of words whose first fault stands at this place, and answers so.
 pub fn usage<U: Sink>(at: u32, out: &mut U) -> Status
     ensures status { result ≡ Usage at }
     ensures says { Says (U.held out.old) (U.held out.new) (U.faults out.old) (U.faults out.new) (line result) }
     ensures grows { OnlyGrows (U.held out.old) (U.held out.new) }
 {
-    let status = Status::Usage { at };
-    say(&status, out);
+    refuse(Status::Usage { at }, out)
+}
+
+/// Writes the line of a status that comes before the rows, and answers it.
+pub fn refuse<U: Sink>(status: Status, out: &mut U) -> Status
+    ensures status { result ≡ status }
+    ensures says { Says (U.held out.old) (U.held out.new) (U.faults out.old) (U.faults out.new) (line status) }
+    ensures grows { OnlyGrows (U.held out.old) (U.held out.new) }
+{
+    write_line(&status, out);
     status
 }
 
-fn put_line<U: Sink>(status: &Status, buffer: &mut Buffer, out: &mut U)
-    ensures { CarriesOn (flow (U.held out.old) (U.faults out.old) buffer.old) (flow (U.held out.new) (U.faults out.new) buffer.new) (line status.now) }
+fn put_line<U: Sink>(status: &Status, writer: &mut Writer<'_, U>)
+    ensures { Puts U.held U.faults writer.old writer.new (line status.now) }
 {
     match status {
-        Status::Usage { at } => put_usage(*at, buffer, out),
-        Status::StudyRefused(fault) => put_refused(fault, buffer, out),
-        Status::SourceFault => buffer.put(b"dakota: study not readable\n", out),
-        Status::SinkFault(which) => put_unwritten(*which, buffer, out),
-        Status::NoMemory => buffer.put(b"dakota: out of memory\n", out),
+        Status::Usage { at } => put_usage(*at, writer),
+        Status::StudyRefused(fault) => put_refused(fault, writer),
+        Status::SourceFault => writer.put(b"dakota: study not readable\n"),
+        Status::SinkFault(which) => put_unwritten(*which, writer),
+        Status::NoMemory => writer.put(b"dakota: out of memory\n"),
         Status::Finished | Status::Aborted => {}
     }
 }
 
-fn put_unwritten<U: Sink>(which: Which, buffer: &mut Buffer, out: &mut U)
-    ensures { CarriesOn (flow (U.held out.old) (U.faults out.old) buffer.old) (flow (U.held out.new) (U.faults out.new) buffer.new) (line (SinkFault which)) }
+fn put_unwritten<U: Sink>(which: Which, writer: &mut Writer<'_, U>)
+    ensures { Puts U.held U.faults writer.old writer.new (line (SinkFault which)) }
 {
     match which {
-        Which::Table => buffer.put(b"dakota: table not written\n", out),
+        Which::Table => writer.put(b"dakota: table not written\n"),
         Which::Out => {}
     }
 }
 
-fn put_usage<U: Sink>(at: u32, buffer: &mut Buffer, out: &mut U)
-    ensures { CarriesOn (flow (U.held out.old) (U.faults out.old) buffer.old) (flow (U.held out.new) (U.faults out.new) buffer.new) (line (Usage at)) }
+fn put_usage<U: Sink>(at: u32, writer: &mut Writer<'_, U>)
+    ensures { Puts U.held U.faults writer.old writer.new (line (Usage at)) }
 {
-    let mut digits = itoa::Buffer::new();
-    buffer.put(b"dakota: usage: word ", out);
-    buffer.put(digits.format(at).as_bytes(), out);
-    buffer.put(b"\n", out);
+    writer.put(b"dakota: usage: word ");
+    put_number(at as usize, writer);
+    writer.put(b"\n");
 }
 
-fn put_refused<U: Sink>(fault: &StudyFault, buffer: &mut Buffer, out: &mut U)
-    ensures { CarriesOn (flow (U.held out.old) (U.faults out.old) buffer.old) (flow (U.held out.new) (U.faults out.new) buffer.new) (line (StudyRefused fault.now)) }
+fn put_refused<U: Sink>(fault: &StudyFault, writer: &mut Writer<'_, U>)
+    ensures { Puts U.held U.faults writer.old writer.new (line (StudyRefused fault.now)) }
 {
-    let mut from = itoa::Buffer::new();
-    let mut to = itoa::Buffer::new();
-    buffer.put(b"dakota: study refused: ", out);
-    buffer.put(kind_name(fault.kind), out);
-    buffer.put(b" at bytes ", out);
-    buffer.put(from.format(fault.span.from).as_bytes(), out);
-    buffer.put(b"..", out);
-    buffer.put(to.format(fault.span.to).as_bytes(), out);
-    buffer.put(b"\n", out);
+    writer.put(b"dakota: study refused: ");
+    writer.put(kind_name(fault.kind));
+    writer.put(b" at bytes ");
+    put_number(fault.span.from as usize, writer);
+    writer.put(b"..");
+    put_number(fault.span.to as usize, writer);
+    writer.put(b"\n");
 }
 
 fn kind_name(kind: StudyKind) -> &'static [u8]

@@ -1,24 +1,22 @@
 // The top call.
-ghost use Rattle.std.specs.Prelude.{◌≡◌, ℕ, ◌≤◌, [], length, map, IfErr, IfOk, IfSome, IsTrue, OnOk, Some, string_bytes};
+ghost use Rattle.std.specs.Prelude.{◌≡◌, ℕ, ◌≤◌, map, IfSome, IsTrue, None, string_bytes};
 ghost use Rattle.dk_outside.specs.Causes.{Rose};
-ghost use Rattle.dk_report.specs.Widths.{HaveWidths};
-ghost use Rattle.dk_runner.specs.Words.{IsRun, Misused};
-ghost use Rattle.dk_runner.specs.Evaluated.{IsEvaluated};
-ghost use Rattle.dk_runner.specs.Accepted.{Refused};
-ghost use Rattle.dk_runner.specs.Lines.{line, status_of as status_of_lem, is_decided, is_early, has_line};
-ghost use Rattle.dk_runner.specs.Headline.{Written, BreaksTable, BreaksSummary, Says, OnlyGrows, EndsAsEvaluated, TellsRefusal};
-ghost use Rattle.dk_runner.specs.Endings.{IsReason, IsTextReason, refused_as, EndsSo, Reports, Summarizes, scene};
+ghost use Rattle.dk_outside.specs.Sources.{IsDrained, TakesAtMost};
 ghost use Rattle.dk_reader.specs.declared.fault.StudyFault.{StudyFault};
+ghost use Rattle.dk_report.specs.Widths.{HaveWidths};
+ghost use Rattle.dk_runner.specs.Accepted.{Refused};
+ghost use Rattle.dk_runner.specs.Endings.{EndsSo, Reports, Summarizes, scene};
+ghost use Rattle.dk_runner.specs.Headline.{Written, BreaksTable, BreaksSummary, Says, OnlyGrows, EndsAsEvaluated, TellsRefusal, WithoutTable};
+ghost use Rattle.dk_runner.specs.Lines.{line, status_of as status_of_defined, is_decided, is_early, is_read, has_line};
+ghost use Rattle.dk_runner.specs.Words.{IsFor, Misused};
 
-use crate::built::is_built;
+use crate::accept::accept;
 use crate::evaluate::{Ran, evaluate};
 use crate::evaluator::Direct;
-use crate::refusal::say;
-use crate::words::usage_of_run;
-use crate::{Span, Status, StudyFault, StudyKind, Which};
-use dk_outside::source::{TextFault, read_text};
+use crate::purpose::Purpose;
+use crate::refusal::refuse;
+use crate::{Status, Which};
 use dk_outside::{Bench, Disk, Failed, Sink, Source};
-use dk_reader::{ReadRefusal, read_study};
 use dk_report::{write_summary, write_table};
 use dk_types::{Ending, Study};
 use std::alloc::Global;
@@ -51,20 +49,21 @@ pub fn dakota<S: Source, K: Disk, T: Sink, U: Sink, B: Bench>(
     ensures decided { IsTrue (is_decided result.status) → IfSome (S.left study.old) (λ text.
         Written text result.status (T.held table.old) (T.held table.new) (U.held out.old) (U.held out.new)) }
 
-    // The study's text was taken to its end then.
-    ensures taken { IsTrue (is_decided result.status) → IfSome (S.left study.old) (λ _. S.left study.new ≡ Some []) }
+    // The study's text was taken to its end, also where it is refused, but for one that is too long.
+    ensures taken { IsTrue (is_read result.status) → IsDrained (S.left study.old) (S.left study.new) }
 
     // The words are refused exactly where they aren't those of a run.
-    ensures usage { (at : ℕ) → result.status ≡ Status.Usage at → Misused (map string_bytes words.now) at }
-    ensures misused { (at : ℕ) → Misused (map string_bytes words.now) at → result.status ≡ Status.Usage at }
+    ensures usage { (at : ℕ) → result.status ≡ Status.Usage at → Misused Purpose.Run (map string_bytes words.now) at }
+    ensures misused { (at : ℕ) → Misused Purpose.Run (map string_bytes words.now) at → result.status ≡ Status.Usage at }
 
     // A study is refused only by its text, and always where its source didn't fail.
-    ensures refused { (fault : StudyFault) → result.status ≡ Status.StudyRefused fault → IfSome (S.left study.old) (λ text. Refused text fault) }
-    ensures refusal_told { IsRun (map string_bytes words.now) → ¬ Rose (S.faults study.old) (S.faults study.new) →
-        IfSome (S.left study.old) (λ text. TellsRefusal text result.status) }
+    ensures refused { (fault : StudyFault) → result.status ≡ Status.StudyRefused fault → IfSome (S.left study.old) (λ text. Refused Purpose.Run text fault) }
+    ensures refusal_told { IsFor Purpose.Run (map string_bytes words.now) → ¬ Rose (S.faults study.old) (S.faults study.new) →
+        IfSome (S.left study.old) (λ text. TellsRefusal Purpose.Run text result.status) }
 
     // A fault of the outside is answered only where that object's count of faults rose.
     ensures source { result.status ≡ Status.SourceFault → Rose (S.faults study.old) (S.faults study.new) }
+    ensures in_time { result.status ≡ Status.SourceFault → TakesAtMost 1048576 (S.left study.old) (S.left study.new) }
     ensures table_fault { result.status ≡ Status.SinkFault Which.Table → Rose (T.faults table.old) (T.faults table.new) }
     ensures out_fault { result.status ≡ Status.SinkFault Which.Out → Rose (U.faults out.old) (U.faults out.new) }
 
@@ -75,13 +74,16 @@ pub fn dakota<S: Source, K: Disk, T: Sink, U: Sink, B: Bench>(
         BreaksSummary text (T.held table.old) (T.held table.new) (U.held out.old) (U.held out.new)) }
 
     // Where nothing fails, a study that is accepted ends as its evaluation does, or for want of memory.
-    ensures complete { IsRun (map string_bytes words.now) → ¬ Rose (S.faults study.old) (S.faults study.new) →
+    ensures complete { IsFor Purpose.Run (map string_bytes words.now) → ¬ Rose (S.faults study.old) (S.faults study.new) →
         ¬ Rose (T.faults table.old) (T.faults table.new) → ¬ Rose (U.faults out.old) (U.faults out.new) →
         IfSome (S.left study.old) (λ text. EndsAsEvaluated text result.status) }
 
     // Every other status has its line on `out`, and the table isn't touched before the study is decided.
     ensures says { IsTrue (has_line result.status) → Says (U.held out.old) (U.held out.new) (U.faults out.old) (U.faults out.new) (line result.status) }
     ensures no_table { IsTrue (is_early result.status) → table.new ≡ table.old }
+
+    // Where the text says a study that asks for no table, the table isn't touched, whatever the status.
+    ensures no_table_asked { IfSome (S.left study.old) (λ text. WithoutTable text (table.new ≡ table.old)) }
 
     // Standard output is never begun.
     ensures never_begun { OnlyGrows (U.held out.old) (U.held out.new) }
@@ -105,13 +107,15 @@ fn run<S: Source, T: Sink, U: Sink>(
     table: &mut T,
     out: &mut U,
 ) -> Status
-    ensures taken { IsTrue (is_decided result) → IfSome (S.left source.old) (λ _. S.left source.new ≡ Some []) }
+    ensures taken { IsTrue (is_read result) → IsDrained (S.left source.old) (S.left source.new) }
+    ensures in_time { result ≡ Status.SourceFault → TakesAtMost 1048576 (S.left source.old) (S.left source.new) }
+    ensures no_table_asked { IfSome (S.left source.old) (λ text. WithoutTable text (table.new ≡ table.old)) }
     ensures grows { OnlyGrows (U.held out.old) (U.held out.new) }
     ensures ends { EndsSo (scene (map string_bytes words.now) (S.left source.old) (S.faults source.old) (S.faults source.new)
         (T.held table.old) (T.held table.new) (T.faults table.old) (T.faults table.new)
         (U.held out.old) (U.held out.new) (U.faults out.old) (U.faults out.new)) (table.new ≡ table.old) result }
 {
-    let study = match accept(alloc, words, source) {
+    let study = match accept(alloc, Purpose::Run, words, source) {
         Ok(study) => study,
         Err(status) => return refuse(status, out),
     };
@@ -121,63 +125,11 @@ fn run<S: Source, T: Sink, U: Sink>(
     }
 }
 
-/// The study that the words and the source give, or why they give none.
-fn accept<S: Source>(alloc: Global, words: &[String], source: &mut S) -> Result<Study, Status>
-    ensures reason { IsReason (map string_bytes words.now) (S.left source.old) (S.faults source.old) (S.faults source.new) result }
-    ensures taken { OnOk result (IfSome (S.left source.old) (λ _. S.left source.new ≡ Some [])) }
-    ensures early { IfErr result (λ status. IsTrue (is_early status)) }
-    ensures evaluated { IfOk result IsEvaluated }
-{
-    if let Some(at) = usage_of_run(words) {
-        return Err(Status::Usage { at });
-    }
-    match read_text(alloc, source) {
-        Ok(text) => accept_text(alloc, &text),
-        Err(TextFault::Failed) => Err(Status::SourceFault),
-        Err(TextFault::TooLong) => Err(refused(StudyKind::TooLong)),
-        Err(TextFault::NoMemory) => Err(Status::NoMemory),
-    }
-}
-
-/// The study of a text, or why it gives none.
-fn accept_text(alloc: Global, text: &[u8]) -> Result<Study, Status>
-    requires { length text.now ≤ 1048576 }
-    ensures reason { IsTextReason text.now result }
-    ensures early { IfErr result (λ status. IsTrue (is_early status)) }
-    ensures evaluated { IfOk result IsEvaluated }
-{
-    match read_study(alloc, text) {
-        Ok(study) if is_built(&study) => Ok(study),
-        Ok(_) => Err(refused(StudyKind::Unsupported)),
-        Err(ReadRefusal::Study(fault)) => Err(Status::StudyRefused(fault)),
-        Err(ReadRefusal::NoMemory) => Err(Status::NoMemory),
-    }
-}
-
-/// A study's text is refused, with an empty span at its beginning.
-fn refused(kind: StudyKind) -> Status
-    ensures { result ≡ refused_as kind }
-{
-    Status::StudyRefused(StudyFault {
-        kind,
-        span: Span { from: 0, to: 0 },
-    })
-}
-
-/// Writes the line of a status that comes before the rows, and answers it.
-fn refuse<U: Sink>(status: Status, out: &mut U) -> Status
-    ensures status { result ≡ status }
-    ensures says { Says (U.held out.old) (U.held out.new) (U.faults out.old) (U.faults out.new) (line status) }
-    ensures grows { OnlyGrows (U.held out.old) (U.held out.new) }
-{
-    say(&status, out);
-    status
-}
-
 /// Writes the table and then the summary.
 fn report<T: Sink, U: Sink>(study: &Study, ran: &Ran, table: &mut T, out: &mut U) -> Status
     requires widths { HaveWidths study.now ran.now.rows.rows }
     ensures grows { OnlyGrows (U.held out.old) (U.held out.new) }
+    ensures leaves_table { study.now.table ≡ None → table.new ≡ table.old }
     ensures reports { Reports study.now ran.now.rows.rows ran.now.ending (T.held table.old) (T.held table.new) (T.faults table.old) (T.faults table.new)
         (U.held out.old) (U.held out.new) (U.faults out.old) (U.faults out.new) result }
 {
@@ -201,7 +153,7 @@ fn report_summary<U: Sink>(study: &Study, ran: &Ran, out: &mut U) -> Status
 
 /// The status of a study that was decided.
 fn status_of(ending: &Ending) -> Status
-    ensures { result ≡ status_of_lem ending.now }
+    ensures { result ≡ status_of_defined ending.now }
 {
     match ending {
         Ending::Finished(_) => Status::Finished,

@@ -3,7 +3,7 @@ mod checks;
 mod command_line;
 mod evaluators;
 mod fakes;
-mod points;
+mod sizes;
 mod studies;
 mod texts;
 
@@ -89,7 +89,7 @@ fn run(alloc: Global, words: &[&str], mut source: Given, room: usize) -> Result<
     for word in words {
         texts.push(String::from_str(alloc, word)?)?;
     }
-    let mut table = Kept::new(alloc, room);
+    let mut table = Kept::file(alloc, room);
     let mut out = Kept::new(alloc, 1000);
     let ended = dakota(
         alloc,
@@ -123,6 +123,7 @@ fn a_study_is_evaluated_and_told(rt: HostRuntime) -> Result<(), Fail> {
     assert_eq!(rt; left.status, Status::Finished);
     assert_eq!(rt; left.table.name(), b"t.dat".as_slice());
     assert_eq!(rt; left.table.taken(), TABLE.as_bytes());
+    assert_eq!(rt; left.table.faults(), 0);
     assert_eq!(rt; left.out.taken(), FOUND.as_bytes());
     assert_eq!(rt; left.out.name().len(), 0);
     Ok(())
@@ -225,6 +226,7 @@ fn other_parts_of_a_study_are_the_texts(rt: HostRuntime) -> Result<(), Fail> {
         assert_eq!(rt; left.status, Status::Finished);
         assert_eq!(rt; left.table.name(), name.as_bytes());
         assert_eq!(rt; left.table.taken(), rows.as_bytes());
+        assert_eq!(rt; left.table.faults(), 0);
         assert_eq!(rt; left.out.taken(), told.as_bytes());
     }
     Ok(())

@@ -2,9 +2,10 @@
 ghost use Rattle.std.specs.Prelude.{◌≡◌, ◌+◌, ◌<◌, length, map, string_bytes, Some};
 ghost use Rattle.std.specs.List.{slice_get};
 ghost use Rattle.std.specs.Option.{option_map};
-ghost use Rattle.dk_runner.specs.Words.{CommandRead, run_fault, check_fault, is_file as is_file_lem, option_of as option_of_lem, takes_file as takes_file_lem};
-ghost use Rattle.dk_runner.specs.Sorting.{place_in, with_place as with_place_lem, IsSorted, HasSorted, HasOptions};
+ghost use Rattle.dk_runner.specs.Words.{CommandRead, run_fault, check_fault, fault_for, is_file as is_file_defined, option_of as option_of_defined, takes_file as takes_file_defined};
+ghost use Rattle.dk_runner.specs.Sorting.{place_in, with_place as with_place_defined, IsSorted, HasSorted, HasOptions};
 
+use crate::purpose::Purpose;
 use crate::{Command, CommandFault};
 use dk_types::Text;
 use std::alloc::Global;
@@ -35,7 +36,7 @@ pub struct Options {
 
 /// Whether this may be a file's name.
 fn is_file(name: &[u8]) -> bool
-    ensures { result ≡ is_file_lem name.now }
+    ensures { result ≡ is_file_defined name.now }
 {
     match name {
         [] => false,
@@ -45,7 +46,7 @@ fn is_file(name: &[u8]) -> bool
 
 /// The option that a word is.
 fn option_of(word: &str) -> Option<OptionName>
-    ensures { result ≡ option_of_lem word.now }
+    ensures { result ≡ option_of_defined word.now }
 {
     match word {
         "-i" | "-input" => Some(OptionName::Input),
@@ -56,7 +57,7 @@ fn option_of(word: &str) -> Option<OptionName>
 
 /// Whether an option needs a FILE.
 fn takes_file(option: OptionName) -> bool
-    ensures { result ≡ takes_file_lem option }
+    ensures { result ≡ takes_file_defined option }
 {
     matches!(option, OptionName::Input)
 }
@@ -74,7 +75,7 @@ impl Found {
 
     /// With an option more, which stands behind these words and has so many words itself.
     fn with(&self, option: OptionName, at: u32, count: u32) -> Found
-        ensures { result ≡ with_place_lem self.now option at count }
+        ensures { result ≡ with_place_defined self.now option at count }
     {
         match option {
             OptionName::Input => Found {
@@ -171,12 +172,23 @@ pub fn usage_of_check(words: &[String]) -> Option<u32>
     }
 }
 
+/// Where the words aren't those of a run, or of a check.
+pub fn usage_for(purpose: Purpose, words: &[String]) -> Option<u32>
+    ensures { result ≡ fault_for purpose (map string_bytes words.now) }
+{
+    match purpose {
+        Purpose::Run => usage_of_run(words),
+        Purpose::Check => usage_of_check(words),
+    }
+}
+
 /// Reads the words of the command line.
 ///
-/// They are `-i FILE` or `-input FILE`, which each command needs, and `-check`, in any order and each once. A FILE isn't
-/// empty and doesn't begin with `-`. The first fault is answered: a word that is no option where one is due, an option for
-/// the second time in either spelling, a word that is no FILE in the place of one, or one past the last word, where a FILE
-/// is missing or no study is named. `each_command_or_place` says that words have just one command or just one first fault.
+/// They are `-i FILE` or `-input FILE`, which each command needs, and `-check`, in any order and each once. A FILE
+/// isn't empty and doesn't begin with `-`. The first fault is answered: a word that is no option where one is due, an
+/// option for the second time in either spelling, a word that is no FILE in the place of one, or one past the last word,
+/// where a FILE is missing or no study is named. `each_command_or_place` says that words have just one command or just
+/// one first fault.
 pub fn command(alloc: Global, words: &[String]) -> Result<Command, CommandFault>
     ensures { CommandRead (map string_bytes words.now) result }
 {

@@ -125,9 +125,7 @@ impl Sink for Page {
 
     fn write(&mut self, piece: &[u8]) -> Result<usize, Failed> {
         let count = piece.len().min(self.room);
-        if (count > 0 || piece.is_empty())
-            && self.taken.extend_from_slice(&piece[..count]).is_ok()
-        {
+        if count > 0 && self.taken.extend_from_slice(&piece[..count]).is_ok() {
             self.room -= count;
             Ok(count)
         } else {

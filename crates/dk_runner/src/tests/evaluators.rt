@@ -6,7 +6,6 @@ use super::fakes::Kept;
 use super::texts::edited;
 use crate::evaluate::evaluate;
 use crate::evaluator::{Evaluator, Reading};
-use dk_method::has_points;
 use dk_num::Dec;
 use dk_outside::source::TEXT_LIMIT;
 use dk_reader::read_study;
@@ -43,7 +42,7 @@ fn told(alloc: Global, edits: &[(&str, &str)], flaky: &Flaky) -> Result<Vec<u8>,
         return Ok(Vec::new(alloc));
     }
     if let Ok(study) = read_study(alloc, &text) {
-        if has_points(&study) && flaky.values.len() == study.responses.labels.items().len() {
+        if study.method.has_points() && flaky.values.len() == study.responses.labels.items().len() {
             let ran = evaluate(alloc, &study, flaky)?;
             let _ = write_table(&study, &ran.rows, &mut table);
             let _ = write_summary(&study, &ran.rows, &ran.ending, &mut table);

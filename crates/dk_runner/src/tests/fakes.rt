@@ -14,7 +14,7 @@ fn fault(faults: &mut u64) -> Failed
     Failed
 }
 
-/// A source of these bytes, in pieces of at most 1,000, or one that fails.
+/// A source of these bytes, in pieces of at most 1,000, which ends or fails behind them.
 #[derive(Drop)]
 pub struct Given {
     bytes: Vec<u8>,
@@ -34,8 +34,12 @@ impl Given {
     }
 
     pub fn failing(alloc: Global) -> Given {
+        Given::failing_after(Vec::new(alloc))
+    }
+
+    pub fn failing_after(bytes: Vec<u8>) -> Given {
         Given {
-            bytes: Vec::new(alloc),
+            bytes,
             at: 0,
             fails: true,
             faults: 0,
@@ -51,10 +55,10 @@ impl Source for Given {
     ghost faults = { λ given. given.faults };
 
     fn read(&mut self, buf: &mut [u8]) -> Result<usize, Failed> {
-        if self.fails {
+        let rest = self.bytes.get(self.at..).unwrap_or(&[]);
+        if self.fails && rest.is_empty() {
             return Err(fault(&mut self.faults));
         }
-        let rest = self.bytes.get(self.at..).unwrap_or(&[]);
         let count = rest.len().min(buf.len()).min(1000);
         buf[..count].copy_from_slice(&rest[..count]);
         self.at = self.at.saturating_add(count);
@@ -62,12 +66,13 @@ impl Source for Given {
     }
 }
 
-/// A sink with so much room, which takes pieces of at most 7 bytes.
+/// A sink with so much room, which takes pieces of at most 7 bytes. A file takes none before it is begun.
 #[derive(Drop)]
 pub struct Kept {
     name: Vec<u8>,
     taken: Vec<u8>,
     room: usize,
+    is_open: bool,
     faults: u64,
 }
 
@@ -77,8 +82,20 @@ impl Kept {
             name: Vec::new(alloc),
             taken: Vec::new(alloc),
             room,
+            is_open: true,
             faults: 0,
         }
+    }
+
+    pub fn file(alloc: Global, room: usize) -> Kept {
+        let mut kept = Kept::new(alloc, room);
+        kept.is_open = false;
+        kept
+    }
+
+    /// How often it failed.
+    pub fn faults(&self) -> u64 {
+        self.faults
     }
 
     /// The name begun; none where none was.
@@ -102,14 +119,17 @@ impl Sink for Kept {
         self.name.clear();
         self.taken.clear();
         match self.name.extend_from_slice(name.as_bytes()) {
-            Ok(()) => Ok(()),
+            Ok(()) => {
+                self.is_open = true;
+                Ok(())
+            }
             Err(_) => Err(fault(&mut self.faults)),
         }
     }
 
     fn write(&mut self, piece: &[u8]) -> Result<usize, Failed> {
         let count = piece.len().min(7).min(self.room);
-        if count == 0 && piece.len() > 0 {
+        if count == 0 || !self.is_open {
             return Err(fault(&mut self.faults));
         }
         if self.taken.extend_from_slice(&piece[..count]).is_err() {

@@ -58,3 +58,11 @@ pub fn unmarked(alloc: Global, text: &[u8]) -> Result<(Vec<u8>, u32, u32), Alloc
     }
     Ok((bytes, from, to))
 }
+
+/// The text with a comment behind it, so that it has so many bytes.
+pub fn padded(mut text: Vec<u8>, count: usize) -> Result<Vec<u8>, AllocError> {
+    for _ in text.len()..count {
+        text.push(b'#')?;
+    }
+    Ok(text)
+}

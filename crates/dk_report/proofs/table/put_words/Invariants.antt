@@ -1,10 +1,9 @@
 use Rattle.std.proofs.Common.{drop}
-use Rattle.dk_outside.specs.Flows.{flow}
 use Rattle.dk_types.specs.Texts.{words_text}
 use Rattle.dk_report.proofs.Parts.{Part}
 use Rattle.dk_report.proofs.table.put_words.Given as goal
 
 abbrev pub invariant-loop-word : goal.invariant-loop-word
 invariant-loop-word g l =
-    Part (flow (g.T.Sink.held l.fn.sink) (g.T.Sink.faults l.fn.sink) l.fn.buffer) (flow (g.T.Sink.held l.sink) (g.T.Sink.faults l.sink) l.buffer)
+    Part g.T.Sink.held g.T.Sink.faults l.fn.writer l.writer
     (words_text (drop l.word-index l.words)) (words_text l.words)

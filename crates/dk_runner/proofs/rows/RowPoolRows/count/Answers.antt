@@ -4,4 +4,4 @@ use Rattle.dk_runner.proofs.Pooled.{rows_long}
 use Rattle.dk_runner.proofs.rows.RowPoolRows.count.Goals as goal
 
 pub returns : goal.returns
-returns c = c.count.ensures.count ∙ sym (rows_long c.self.inside.points.rows c.self.inside.values.rows c.self.invariant.paired) ∙ ap (λ (s : RowsState). length s.rows) c.self.view_is
+returns c = c.count.ensures.gives_count ∙ sym (rows_long c.self.inside.points.rows c.self.inside.values.rows c.self.invariant.paired) ∙ ap (λ (s : RowsState). length s.rows) c.self.view_is

@@ -15,4 +15,4 @@ row-requires c =
 pub returns : goal.returns
 returns c =
     sym (ap (λ (s : RowsState). option_map (λ (r : Row). r.point) (slice_get s.rows (c.args.row - 1))) c.self.view_is)
-    ∙ row_point c.self.inside.points.rows c.self.inside.values.rows (c.args.row - 1) c.row.result.now c.self.invariant.paired c.row.ensures.row
+    ∙ row_point c.self.inside.points.rows c.self.inside.values.rows (c.args.row - 1) c.row.result.now c.self.invariant.paired c.row.ensures.lends_row
