@@ -36,15 +36,16 @@ pub fn read_from<R: Read>(
     }
 }
 
-/// Writes once, where there is something to write to. No byte taken of a piece that has one is a fault.
+/// Writes a piece that isn't empty once, where there is something to write to. No byte taken is a fault.
 pub fn write_to<W: Write>(
     sink: &mut Option<W>,
     piece: &[u8],
     count: &mut u64,
 ) -> Result<usize, Failed>
+    requires { 0 < length piece.now }
     ensures absent { IsNone sink.old → IsErr result }
     ensures bound { IfOk result (λ n. n ≤ length piece.now) }
-    ensures some { IfOk result (λ n. 0 < length piece.now → 0 < n) }
+    ensures some { IfOk result (λ n. 0 < n) }
     ensures bytes { IfSome sink.old (λ old. IfSome sink.new (λ new. WriteAppends (W.contents old) (W.contents new) result piece.now)) }
     ensures cause { HasCause count.old count.new result }
 {
@@ -52,7 +53,7 @@ pub fn write_to<W: Write>(
         return Err(fault(count));
     };
     match sink.write(piece) {
-        Ok(0) if !piece.is_empty() => Err(fault(count)),
+        Ok(0) => Err(fault(count)),
         Ok(taken) => Ok(taken),
         Err(_) => Err(fault(count)),
     }

@@ -4,6 +4,7 @@ ghost use Rattle.std.specs.Prelude.{◌≡◌};
 use crate::faults::{fault, read_from, write_to};
 use dk_outside::{Failed, Sink, Source};
 use std::fs;
+use std::os::unix::fs::MetadataExt;
 use std::rt::Files;
 
 /// The bytes of the file at a path. It is opened by the first read.
@@ -44,20 +45,24 @@ impl<R: Files> Source for FileSource<'_, R> {
     }
 }
 
-/// A file in the current folder, which `begin` makes or empties.
+/// A file that `begin` makes or empties, at a path from the current folder on. It isn't begun in the study's place.
 #[derive(Drop)]
 pub struct FileSink<'a, R: Files> {
     files: &'a R,
+    study: &'a str,
     file: Option<R::File>,
     faults: u64,
 }
 
 impl<'a, R: Files> FileSink<'a, R> {
-    pub fn new(files: &'a R) -> FileSink<'a, R>
-        ensures { result.faults ≡ 0 }
+    /// A sink that isn't begun, for the table of the study at this path.
+    pub fn new(files: &'a R, study: &'a str) -> FileSink<'a, R>
+        ensures faults { result.faults ≡ 0 }
+        ensures study { result.study.now ≡ study.now }
     {
         FileSink {
             files,
+            study,
             file: None,
             faults: 0,
         }
@@ -72,6 +77,9 @@ impl<R: Files> Sink for FileSink<'_, R> {
     ghost faults = { λ sink. sink.faults };
 
     fn begin(&mut self, name: &str) -> Result<(), Failed> {
+        if is_same_file(self.files, self.study, name) {
+            return Err(fault(&mut self.faults));
+        }
         match fs::create(self.files, name) {
             Ok(file) => {
                 self.file = Some(file);
@@ -86,6 +94,14 @@ impl<R: Files> Sink for FileSink<'_, R> {
     }
 }
 
+/// Whether both paths lead to one file, by its device and number: also by links.
+fn is_same_file<R: Files>(files: &R, one: &str, other: &str) -> bool {
+    match (fs::metadata(files, one), fs::metadata(files, other)) {
+        (Ok(one), Ok(other)) => one.dev() == other.dev() && one.ino() == other.ino(),
+        _ => false,
+    }
+}
+
 #[cfg(test)]
 mod tests {
     use super::*;
@@ -97,7 +113,7 @@ mod tests {
 
     #[test]
     fn a_table_is_the_file_begun_last(rt: HostRuntime) -> Result<(), Fail> {
-        let mut sink = FileSink::new(&rt);
+        let mut sink = FileSink::new(&rt, "study.in");
         assert!(rt; sink.write(b"too early").is_err());
         for text in ["a longer first one\n", "1 NO_ID\n"] {
             assert!(rt; sink.begin(NAME).is_ok());

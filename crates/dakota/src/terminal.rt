@@ -1,5 +1,7 @@
 // Standard output.
-ghost use Rattle.std.specs.Prelude.{◌≡◌};
+ghost use Rattle.std.specs.Prelude.{◌≡◌, IsErr};
+ghost use Rattle.dk_outside.specs.Causes.{HasCause};
+ghost use Rattle.dk_outside.specs.Sinks.{Begins};
 
 use crate::faults::{fault, write_to};
 use dk_outside::{Failed, Sink};
@@ -27,7 +29,11 @@ impl<P: Print> Sink for OutSink<'_, P> {
 
     ghost faults = { λ sink. sink.faults };
 
-    fn begin(&mut self, _name: &str) -> Result<(), Failed> {
+    fn begin(&mut self, _name: &str) -> Result<(), Failed>
+        ensures fails { IsErr result }
+        ensures begins { Begins None None result _name.now }
+        ensures cause { HasCause self.old.faults self.new.faults result }
+    {
         Err(fault(&mut self.faults))
     }
 

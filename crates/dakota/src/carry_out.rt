@@ -1,0 +1,122 @@
+// What the words of the command line are carried out by.
+ghost use Rattle.std.specs.Prelude.{◌≡◌, ◌⊎◌};
+ghost use Rattle.dk_outside.specs.Causes.{Rose};
+ghost use Rattle.dk_outside.specs.Sinks.{Grows};
+ghost use Rattle.dk_runner.specs.Headline.{Says, OnlyGrows};
+ghost use Rattle.dk_runner.specs.Lines.{line};
+ghost use Rattle.dk_runner.specs.declared.status.Status.TheVariants.{Finished, NoMemory, SinkFault};
+
+use crate::absent::{NoBench, NoDisk};
+use crate::files::{FileSink, FileSource};
+use dk_outside::Sink;
+use dk_outside::sink::write_all;
+use dk_runner::{Command, CommandFault, Status, Which, check, command, dakota, usage, write_line};
+use std::alloc::{AllocError, Global};
+use std::rt::Files;
+
+/// How many children may run at once.
+const BENCHES: usize = 64;
+
+pub const HELP: &str = "dakota: runs a study of a simulation, or checks one
+
+  dakota -i FILE          run the study in FILE (-input FILE is the same)
+  dakota -check -i FILE   read and check the study, and run nothing
+  dakota --help           print this
+  dakota --version        print the version
+
+A run writes the study's table under the name that the study gives, and its summary here. For example:
+
+  dakota -check -i examples/grid.in
+
+docs/MANUAL.md in Dirhaulk's repository says how a study is written, keyword by keyword,
+and what the exit statuses are.
+";
+
+pub const VERSION: &str = "dakota, Dirhaulk 0.1.0\n";
+
+/// Carries out the words behind the program's name: runs or checks the study in a file, prints a text that is asked
+/// for, or says where the words are wrong. Answers how that ended.
+pub fn carry_out<R: Files + AllocGlobal, U: Sink>(rt: &R, words: &[String], out: &mut U) -> Status {
+    if let Some(text) = text_asked_for(words) {
+        return print_text(text, out);
+    }
+    match command(rt.alloc(), words) {
+        Ok(Command::Run { input }) => run_file(rt, words, input.as_str(), out),
+        Ok(Command::Check { input }) => {
+            let mut study = FileSource::new(rt, input.as_str());
+            check(rt.alloc(), words, &mut study, out)
+        }
+        Err(CommandFault::Usage { at }) => usage(at, out),
+        Err(CommandFault::NoMemory) => end_without_memory(out),
+    }
+}
+
+/// Ends for want of memory before there is a call to make.
+pub fn end_without_memory<U: Sink>(out: &mut U) -> Status
+    ensures status { result ≡ NoMemory }
+    ensures says { Says (U.held out.old) (U.held out.new) (U.faults out.old) (U.faults out.new) (line NoMemory) }
+    ensures never_begun { OnlyGrows (U.held out.old) (U.held out.new) }
+{
+    write_line(&Status::NoMemory, out);
+    Status::NoMemory
+}
+
+/// The text that is asked for by one word alone.
+fn text_asked_for(words: &[String]) -> Option<&'static str> {
+    let [word] = words else {
+        return None;
+    };
+    match word.as_str() {
+        "--help" => Some(HELP),
+        "--version" => Some(VERSION),
+        _ => None,
+    }
+}
+
+/// Prints a text that was asked for.
+fn print_text<U: Sink>(text: &str, out: &mut U) -> Status
+    ensures prints { result ≡ Finished → Grows (U.held out.old) (U.held out.new) text.now }
+    ensures ends { (result ≡ Finished) ⊎ (result ≡ SinkFault Which.Out) }
+    ensures out_fault { result ≡ SinkFault Which.Out → Rose (U.faults out.old) (U.faults out.new) }
+    ensures never_begun { OnlyGrows (U.held out.old) (U.held out.new) }
+{
+    match write_all(out, text.as_bytes()) {
+        Ok(()) => Status::Finished,
+        Err(_) => Status::SinkFault(Which::Out),
+    }
+}
+
+/// Runs the study in a file, whose place the table can't take.
+fn run_file<R: Files + AllocGlobal, U: Sink>(
+    rt: &R,
+    words: &[String],
+    path: &str,
+    out: &mut U,
+) -> Status
+    ensures out_fault { result ≡ SinkFault Which.Out → Rose (U.faults out.old) (U.faults out.new) }
+    ensures never_begun { OnlyGrows (U.held out.old) (U.held out.new) }
+{
+    let Ok(benches) = benches(rt.alloc()) else {
+        return end_without_memory(out);
+    };
+    let mut study = FileSource::new(rt, path);
+    let mut table = FileSink::new(rt, path);
+    let ended = dakota(
+        rt.alloc(),
+        words,
+        &mut study,
+        NoDisk::new(),
+        &mut table,
+        out,
+        benches,
+    );
+    ended.status
+}
+
+fn benches(alloc: Global) -> Result<Vec<NoBench>, AllocError> {
+    let mut benches = Vec::with_capacity(alloc, BENCHES)?;
+    for _ in 0..BENCHES {
+        benches.push(NoBench::new())?;
+    }
+    Ok(benches)
+}

@@ -1,0 +1,3 @@
+//! What the program does with its words, over files of its own and a standard output in memory.
+mod commands;
+mod outputs;

@@ -1,0 +1,209 @@
+// Commands with their exit status, what they print and the table that they leave.
+use super::outputs::{Closed, Page};
+use crate::carry_out::{HELP, VERSION, carry_out};
+use crate::terminal::OutSink;
+use std::alloc::{AllocError, Global};
+use std::fs;
+use std::rt::Files;
+use std::test::Fail;
+
+const STUDY: &str = "s.in";
+
+const TABLE: &str = "t.dat";
+
+/// What stands in the table's file before each command.
+const OLDER: &str = "older\n";
+
+const FINISHED: &str = "<<<<< Study finished: complete
+<<<<< Function evaluation summary: 2 total (2 new, 0 duplicate)
+<<<<< Best evaluation: 2
+<<<<< Best parameters: x1 = 1, x2 = 1
+<<<<< Best objective function: obj_fn = 0
+";
+
+const ROWS: &str = "%eval_id interface x1 x2 obj_fn
+1 NO_ID 0 0 1
+2 NO_ID 1 1 0
+";
+
+const ABORTED: &str = "<<<<< Study aborted: evaluation 2 failed, attempts 1
+<<<<< Function evaluation summary: 1 total (1 new, 0 duplicate)
+<<<<< Best evaluation: 1
+<<<<< Best parameters: x1 = 0, x2 = 0
+<<<<< Best objective function: obj_fn = 1
+";
+
+const FIRST_ROW: &str = "%eval_id interface x1 x2 obj_fn
+1 NO_ID 0 0 1
+";
+
+const ACCEPTED: &str = "study accepted: variables 2, responses 1, evaluations at most 2\n";
+
+const UNREADABLE: &str = "dakota: study not readable\n";
+
+const UNWRITTEN: &str = "dakota: table not written\n";
+
+/// The step and the words of the interface of studies.
+const PLAIN: (&str, &str) = ("1 1", "direct");
+
+const UNEVEN: (&str, &str) = ("0.3333333333 1", "direct");
+
+const FORKED: (&str, &str) = ("1 1", "fork");
+
+const WRONG: (&str, &str) = ("1 1", "direct grid");
+
+/// A study with a table of this name.
+fn study_text(alloc: Global, table: &str, study: (&str, &str)) -> Result<String, AllocError> {
+    let (step, interface) = study;
+    format!(in alloc;
+        "environment tabular_data tabular_data_file = '{table}'
+        method vector_parameter_study num_steps = 1 step_vector = {step}
+        variables continuous_design = 2 descriptors = 'x1' 'x2'
+        interface analysis_drivers = 'rosenbrock' {interface}
+        responses objective_functions = 1"
+    )
+}
+
+fn texts(alloc: Global, words: &[&str]) -> Result<Vec<String>, AllocError> {
+    let mut texts = Vec::new(alloc);
+    for word in words {
+        texts.push(String::from_str(alloc, word)?)?;
+    }
+    Ok(texts)
+}
+
+/// The words, the study in the file and its table's name, and then the exit status, what is printed, and what the
+/// table's file has.
+type Case = (
+    &'static [&'static str],
+    (&'static str, &'static str),
+    &'static str,
+    u8,
+    &'static str,
+    &'static str,
+);
+
+const CASES: [Case; 17] = [
+    (&["-i", STUDY], PLAIN, TABLE, 0, FINISHED, ROWS),
+    (&["-input", "./s.in"], PLAIN, TABLE, 0, FINISHED, ROWS),
+    (&["-i", STUDY], UNEVEN, TABLE, 1, ABORTED, FIRST_ROW),
+    (&["-check", "-i", STUDY], PLAIN, TABLE, 0, ACCEPTED, OLDER),
+    (&["-i", STUDY, "-check"], FORKED, TABLE, 0, ACCEPTED, OLDER),
+    (&["--help"], PLAIN, TABLE, 0, HELP, OLDER),
+    (&["--version"], PLAIN, TABLE, 0, VERSION, OLDER),
+    (&[], PLAIN, TABLE, 2, "dakota: usage: word 1\n", OLDER),
+    (&["-i"], PLAIN, TABLE, 2, "dakota: usage: word 2\n", OLDER),
+    (
+        &["--help", "--version"],
+        PLAIN,
+        TABLE,
+        2,
+        "dakota: usage: word 1\n",
+        OLDER,
+    ),
+    (
+        &["-i", STUDY, "-o", "out"],
+        PLAIN,
+        TABLE,
+        2,
+        "dakota: usage: word 3\n",
+        OLDER,
+    ),
+    (
+        &["-i", STUDY],
+        FORKED,
+        TABLE,
+        3,
+        "dakota: study refused: Unsupported at bytes 0..0\n",
+        OLDER,
+    ),
+    (
+        &["-i", STUDY],
+        WRONG,
+        TABLE,
+        3,
+        "dakota: study refused: Unsupported at bytes 244..248\n",
+        OLDER,
+    ),
+    (
+        &["-check", "-i", STUDY],
+        WRONG,
+        TABLE,
+        3,
+        "dakota: study refused: Unsupported at bytes 244..248\n",
+        OLDER,
+    ),
+    (&["-i", "none.in"], PLAIN, TABLE, 4, UNREADABLE, OLDER),
+    (
+        &["-check", "-i", "none/s.in"],
+        PLAIN,
+        TABLE,
+        4,
+        UNREADABLE,
+        OLDER,
+    ),
+    (&["-i", STUDY], PLAIN, "none/t.dat", 9, UNWRITTEN, OLDER),
+];
+
+#[test]
+fn commands_end_and_print_as_they_should(rt: HostRuntime) -> Result<(), Fail> {
+    let alloc = rt.alloc();
+    for (words, study, table, status, told, left) in CASES {
+        fs::write(&rt, STUDY, study_text(alloc, table, study)?)?;
+        fs::write(&rt, TABLE, OLDER)?;
+        let mut page = Page::new(alloc);
+        let ended = carry_out(&rt, &texts(alloc, words)?, &mut page);
+        assert_eq!(rt; page.text(), told.as_bytes());
+        assert_eq!(rt; ended.code(), status, "at {told}");
+        let file = fs::read(&rt, TABLE)?;
+        assert_eq!(rt; file.as_slice(), left.as_bytes());
+    }
+    Ok(())
+}
+
+#[test]
+fn a_closed_standard_output_is_told_by_the_status(rt: HostRuntime) -> Result<(), Fail> {
+    let alloc = rt.alloc();
+    let cases: [(&[&str], u8, &str); 6] = [
+        (&["--help"], 9, OLDER),
+        (&["--version"], 9, OLDER),
+        (&["-check", "-i", STUDY], 9, OLDER),
+        (&["-i", STUDY], 9, ROWS),
+        (&["-i"], 2, OLDER),
+        (&["-i", "none.in"], 4, OLDER),
+    ];
+    for (words, status, left) in cases {
+        fs::write(&rt, STUDY, study_text(alloc, TABLE, PLAIN)?)?;
+        fs::write(&rt, TABLE, OLDER)?;
+        let ended = carry_out(&rt, &texts(alloc, words)?, &mut OutSink::new(&Closed));
+        assert_eq!(rt; ended.code(), status);
+        let file = fs::read(&rt, TABLE)?;
+        assert_eq!(rt; file.as_slice(), left.as_bytes());
+    }
+    Ok(())
+}
+
+#[test]
+fn a_table_cannot_take_the_studys_place(rt: HostRuntime) -> Result<(), Fail> {
+    let alloc = rt.alloc();
+    fs::write(&rt, STUDY, "")?;
+    // An earlier run in this folder may have left them.
+    for link in ["hard.in", "soft.in"] {
+        let _ = fs::remove_file(&rt, link);
+    }
+    fs::hard_link(&rt, STUDY, "hard.in")?;
+    rt.symlink(STUDY, "soft.in")?;
+    for name in [STUDY, "./s.in", "hard.in", "soft.in"] {
+        let text = study_text(alloc, name, PLAIN)?;
+        fs::write(&rt, STUDY, text.as_str())?;
+        for path in [STUDY, "./s.in", "soft.in"] {
+            let mut page = Page::new(alloc);
+            let ended = carry_out(&rt, &texts(alloc, &["-i", path])?, &mut page);
+            assert_eq!(rt; ended.code(), 9);
+            assert_eq!(rt; page.text(), UNWRITTEN.as_bytes());
+            let file = fs::read(&rt, STUDY)?;
+            assert_eq!(rt; file.as_slice(), text.as_bytes());
+        }
+    }
+    Ok(())
+}
