@@ -181,6 +181,14 @@ def refusal(kind, start=0, end=0):
     return f"dakota: study refused: {kind} at bytes {start}..{end}\n", 3
 
 
+def write_table(name, study_name, text):
+    """Writes the table's file, but not in the study's place."""
+    if os.path.exists(name) and os.path.samefile(name, study_name):
+        raise OSError("the table's file is the study's")
+    with open(name, "wb") as it:
+        it.write(text.encode())
+
+
 def run(words):
     """The text for standard output, and the exit status."""
     try:
@@ -204,8 +212,7 @@ def run(words):
     rows, attempts = evaluate(study)
     try:
         if study.table is not None:
-            with open(study.table, "wb") as it:
-                it.write(table(study, rows).encode())
+            write_table(study.table, name, table(study, rows))
     except OSError:
         return "dakota: table not written\n", 9
     return summary(study, rows, attempts), 0 if attempts is None else 1
