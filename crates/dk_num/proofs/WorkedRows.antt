@@ -1,7 +1,8 @@
 -- Worked examples of the definitions, computed.
-use Rattle.std.proofs.Common.{◌≡◌, refl, [], ◌∷◌, Some, None, ℤ, pos, neg_ℤ, negsuc}
-use Rattle.std.specs.Prelude.{codes, Ok, Err}
-use Rattle.dk_num.specs.Decimal.{Decimal, decimal_of}
+use Rattle.std.proofs.Common.{◌≡◌, refl, [], ◌∷◌, Some, None, ℤ, pos, neg_ℤ, negsuc, ℕ, arith}
+use Rattle.std.proofs.lemmas.Int.{ints}
+use Rattle.std.specs.Prelude.{codes, Ok, Err, ◌≤ℤ◌}
+use Rattle.dk_num.specs.Decimal.{Decimal, IsCanonical, decimal_of}
 use Rattle.dk_num.specs.Numbers.{read_of, number_of}
 use Rattle.dk_num.specs.Units.{unit_exponent, units_of}
 use Rattle.dk_num.specs.Arithmetic.{ros}
@@ -9,6 +10,15 @@ use Rattle.dk_num.specs.declared.read.NumFault.TheVariants.{Empty, Shape, OutOfR
 
 abbrev dec : ℤ → ℤ → Decimal
 dec m e = record { mantissa = m; exponent = e }
+
+zero_at_one : IsCanonical (dec (pos 0) (pos 1)) → ⊥
+zero_at_one is = let e : ◌≡◌ {A = ℤ} (pos 1) (pos 0) = is.zero refl in cc
+
+ten_at_zero : IsCanonical (dec (pos 10) (pos 0)) → ⊥
+ten_at_zero is = let e : ◌≡◌ {A = ℕ} 1 0 = is.stripped (omega arith) in cc
+
+past_the_range : IsCanonical (dec (pos 1) (pos 10000)) → ⊥
+past_the_range is = let h : pos 10000 ≤ℤ pos 9999 = is.highest (omega arith) in omega (arith, ints)
 
 a_tenth : read_of (codes "0.10") ≡ Ok (dec (pos 1) (neg_ℤ (pos 1)))
 unfolding read_of number_of

@@ -1,5 +1,5 @@
 // A decimal and its arithmetic.
-ghost use Rattle.std.specs.Prelude.{◌≡◌, ◌↔◌, IsTrue, ◌+◌, ◌*◌, ◌%◌, ◌^◌, ◌<◌, ◌≤◌, ◌+ℤ◌, ◌-ℤ◌, ◌*ℤ◌, ℤ, pos, neg_ℤ, unsigned_abs, Some, None, IfSome, IfNone, if◌then◌else◌, ◌≤ℤ◌};
+ghost use Rattle.std.specs.Prelude.{◌≡◌, ◌↔◌, IsTrue, ◌+◌, ◌*◌, ◌%◌, ◌^◌, ◌<◌, ◌≤◌, ◌+ℤ◌, ◌-ℤ◌, ◌*ℤ◌, ℤ, pos, neg_ℤ, unsigned_abs, Some, None, IfSome, IfNone, is_some, if◌then◌else◌, ◌≤ℤ◌};
 ghost use Rattle.std.specs.Int.{int_min};
 ghost use Rattle.dk_num.specs.Decimal.{Decimal, IsCanonical, decimal_of, digit_count, zero_count, is_in_range};
 ghost use Rattle.dk_num.specs.Arithmetic.{sum_of, difference, product, negated, small_product, sum_at};
@@ -140,6 +140,25 @@ fn leads_in_range(magnitude: u128, exponent: i32) -> bool
     -9999 <= leading && leading <= 9999
 }
 
+/// Whether a pair with a mantissa of this magnitude stands for a decimal.
+fn is_canonical(magnitude: u128, exponent: i32) -> bool
+    ensures { IsTrue result ↔ IsCanonical (record { mantissa = pos magnitude; exponent = exponent }) }
+{
+    if magnitude == 0 {
+        return exponent == 0;
+    }
+    if magnitude >= LIMIT {
+        return false;
+    }
+    if ends_with_zero(magnitude) {
+        return false;
+    }
+    if exponent.unsigned_abs() > 20000 {
+        return false;
+    }
+    leads_in_range(magnitude, exponent)
+}
+
 /// The number of this magnitude and sign.
 fn signed(magnitude: u128, negative: bool) -> i128
     requires { magnitude < 10 ^ 34 }
@@ -153,7 +172,7 @@ fn signed(magnitude: u128, negative: bool) -> i128
 }
 
 impl Dec {
-    ghost use Rattle.std.specs.Prelude.{◌≡◌, ◌↔◌, IsTrue, ◌<◌, ◌≤◌, ◌^◌, ◌*ℤ◌, ◌+ℤ◌, ◌≤ℤ◌, ℤ, pos, neg_ℤ, unsigned_abs, Some, None};
+    ghost use Rattle.std.specs.Prelude.{◌≡◌, ◌↔◌, IsTrue, ◌<◌, ◌≤◌, ◌^◌, ◌*ℤ◌, ◌+ℤ◌, ◌≤ℤ◌, ℤ, pos, neg_ℤ, unsigned_abs, Some, None, IfSome, is_some};
     ghost use Rattle.dk_num.specs.Decimal.{decimal_of, zero_decimal, IsCanonical};
     ghost use Rattle.dk_num.specs.Arithmetic.{product, sum_of, difference, negated};
 
@@ -164,6 +183,20 @@ impl Dec {
         ensures is_canonical { IsCanonical self.now }
     {
         (self.mantissa, self.exponent)
+    }
+
+    /// The decimal with this pair, where it is one: the mantissa is below 10^34 in absolute value and 10 doesn't divide
+    /// it, and the power of ten of its first digit is in -9999 to 9999, or both numbers are 0. None exactly where the
+    /// pair isn't one that `pair` can give.
+    pub fn of_pair(mantissa: i128, exponent: i32) -> Option<Dec>
+        ensures is_the_pair { IfSome result (λ d. d ≡ record { mantissa = mantissa; exponent = exponent }) }
+        ensures tells_canonical { IsTrue (is_some result) ↔ IsCanonical (record { mantissa = mantissa; exponent = exponent }) }
+    {
+        if is_canonical(mantissa.unsigned_abs(), exponent) {
+            Some(Dec { mantissa, exponent })
+        } else {
+            None
+        }
     }
 
     /// Whether it is zero.
@@ -560,9 +593,33 @@ pub(crate) mod tests {
         ((5, -9999), (2, 0), Some((1, -9998))),
     ];
 
+    // Pairs that are no decimals.
+    const NO_DECIMALS: [Pair; 14] = [
+        (0, 1),
+        (0, -1),
+        (10, 0),
+        (-1200, -2),
+        (1, 10000),
+        (-1, -10000),
+        (12, 9999),
+        (12, -10001),
+        (1, 2147483647),
+        (3, -2147483648),
+        (10000000000000000000000000000000000, 0),
+        (-10000000000000000000000000000000001, -34),
+        (170141183460469231731687303715884105727, 0),
+        (-170141183460469231731687303715884105728, 0),
+    ];
+
     #[test]
     fn adds_and_subtracts(rt: HostRuntime) {
+        for (mantissa, exponent) in NO_DECIMALS {
+            let made = Dec::of_pair(mantissa, exponent).map(|d| d.pair());
+            assert_eq!(rt; made, None, "{mantissa}, {exponent}");
+        }
         for (a, b, want) in SUMS {
+            let made = Dec::of_pair(a.0, a.1).map(|d| d.pair());
+            assert_eq!(rt; made, Some(a), "{a:?}");
             let negative = at(b).negate();
             assert_eq!(rt; at(a).add(at(b)).map(|d| d.pair()), want, "{a:?} + {b:?}");
             assert_eq!(rt; at(b).add(at(a)).map(|d| d.pair()), want, "{b:?} + {a:?}");
