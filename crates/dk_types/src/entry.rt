@@ -3,14 +3,14 @@ use crate::Decs;
 use dk_num::Dec;
 
 /// What an attempt gave, lent: one value a response, or that it failed.
-#[derive(Clone, Copy)]
+#[derive(Clone, Copy, Debug)]
 pub enum Outcome<'a> {
     Values(&'a [Dec]),
     Failed,
 }
 
 /// What an attempt gave, kept: one value a response, or that it failed.
-#[derive(Drop)]
+#[derive(Debug, Drop)]
 pub enum Said {
     Values(Decs),
     Failed,
@@ -18,7 +18,7 @@ pub enum Said {
 
 /// An attempt that was made: its point, one decimal a variable; its number among the attempts of this point, from 1;
 /// and what it gave.
-#[derive(Drop)]
+#[derive(Debug, Drop)]
 pub struct Entry {
     pub point: Decs,
     pub attempt: u32,

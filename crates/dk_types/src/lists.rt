@@ -8,7 +8,7 @@ use std::alloc::{AllocError, Global};
 use std::marker::Model;
 
 /// Labels in order.
-#[derive(Drop)]
+#[derive(Debug, Drop)]
 pub struct Labels {
     items: Vec<Text>,
 }
@@ -53,7 +53,7 @@ impl Labels {
 }
 
 /// Whole numbers of a study's unit, in order.
-#[derive(Drop)]
+#[derive(Debug, Drop)]
 pub struct Units {
     items: Vec<i128>,
 }
@@ -98,7 +98,7 @@ impl Units {
 }
 
 /// Whole numbers that count, one a variable.
-#[derive(Drop)]
+#[derive(Debug, Drop)]
 pub struct Counts {
     items: Vec<u32>,
 }
@@ -143,7 +143,7 @@ impl Counts {
 }
 
 /// Decimals in order, as a point or its values.
-#[derive(Drop)]
+#[derive(Debug, Drop)]
 pub struct Decs {
     items: Vec<Dec>,
 }

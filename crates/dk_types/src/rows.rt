@@ -7,7 +7,7 @@ use crate::Decs;
 use dk_num::Dec;
 
 /// A point and the values that its evaluation gave: one decimal a variable, one a response.
-#[derive(Drop)]
+#[derive(Debug, Drop)]
 pub struct Row {
     pub point: Decs,
     pub values: Decs,

@@ -8,7 +8,7 @@ use std::alloc::{AllocError, Global};
 
 /// An accepted study. Its points are whole numbers of `unit`, `table` is the name of its table (`tabular_data_file`)
 /// where it asks for one (`tabular_data`), and `limit` is the greatest number of rows that it can have.
-#[derive(Drop)]
+#[derive(Debug, Drop)]
 pub struct Study {
     pub unit: Unit,
     pub variables: Variables,
@@ -21,7 +21,7 @@ pub struct Study {
 
 /// The design variables: their labels (`descriptors`), their values at the start (`initial_point`), and the bounds that
 /// they have (`lower_bounds`, `upper_bounds`).
-#[derive(Drop)]
+#[derive(Debug, Drop)]
 pub struct Variables {
     pub labels: Labels,
     pub initial: Units,
@@ -30,21 +30,21 @@ pub struct Variables {
 }
 
 /// The responses: their labels, and whether they are `objective_functions`; else they are `response_functions`.
-#[derive(Drop)]
+#[derive(Debug, Drop)]
 pub struct Responses {
     pub labels: Labels,
     pub objectives: bool,
 }
 
 /// How a vector study moves: by a step (`step_vector`), or up to a final point (`final_point`).
-#[derive(Drop)]
+#[derive(Debug, Drop)]
 pub enum Way {
     Step(Units),
     Final(Units),
 }
 
 /// The method of a study.
-#[derive(Drop)]
+#[derive(Debug, Drop)]
 pub enum Method {
     /// `vector_parameter_study`, with `num_steps` steps behind its first point.
     Vector {
@@ -92,7 +92,7 @@ impl Method {
 
 /// What evaluates a point: the function `rosenbrock` within the program (`direct`), or another program, by the words
 /// that call it (`fork`).
-#[derive(Drop)]
+#[derive(Debug, Drop)]
 pub enum Driver {
     Direct,
     Fork { words: Words },
@@ -107,7 +107,7 @@ pub enum ParamForm {
 
 /// What happens at an evaluation without a value (`failure_capture`): the study ends (`abort`), the evaluation is
 /// tried so many times again (`retry`), or these values stand in its place (`recover`).
-#[derive(Drop)]
+#[derive(Debug, Drop)]
 pub enum FailRule {
     Abort,
     Retry(u32),
@@ -130,7 +130,7 @@ impl FailRule {
 /// How points are evaluated: by which driver, over files of which names (`parameters_file`, `results_file`) and form
 /// (`aprepro`), whether the names get the evaluation's number (`file_tag`) and the files stay (`file_save`), how many
 /// evaluations may run at once (`evaluation_concurrency`), and what happens at one without a value.
-#[derive(Drop)]
+#[derive(Debug, Drop)]
 pub struct Interface {
     pub driver: Driver,
     pub parameters: Text,
@@ -143,7 +143,7 @@ pub struct Interface {
 }
 
 /// The labels of a study's variables and responses, which a restart file has to share with it.
-#[derive(Drop)]
+#[derive(Debug, Drop)]
 pub struct Shape {
     pub variables: Labels,
     pub responses: Labels,
