@@ -5,6 +5,7 @@ use crate::words::{Block, Entry};
 use dk_lex::{Span, Tokens};
 use std::alloc::AllocError;
 use std::marker::Model;
+use thiserror::Error;
 
 /// A block that a text opens, and the span of the name that opens it.
 #[derive(Clone, Copy, Debug, PartialEq, Eq)]
@@ -93,21 +94,27 @@ pub struct Tree {
 }
 
 /// Why tokens give no tree. A fault of a token has the token's span.
-#[derive(Clone, Copy, Debug, PartialEq, Eq)]
+#[derive(Clone, Copy, Debug, PartialEq, Eq, Error)]
 pub enum GrammarFault {
     /// The word is no block, no keyword and not refused, or it stands right behind `output` and says nothing of how much
     /// to write.
+    #[error("study refused: UnknownKeyword at bytes {}..{}", .0.from, .0.to)]
     UnknownKeyword(Span),
     /// The word is one of Dakota's that is refused here.
+    #[error("study refused: Unsupported at bytes {}..{}", .0.from, .0.to)]
     Unsupported(Span),
     /// The block, or the keyword of its block, stands for the second time.
+    #[error("study refused: Repeated at bytes {}..{}", .0.from, .0.to)]
     Repeated(Span),
     /// The keyword stands outside of a block that has it, or the value behind no keyword that takes such values.
+    #[error("study refused: Misplaced at bytes {}..{}", .0.from, .0.to)]
     Misplaced(Span),
     /// All tokens are in order, but this block, which each study has, isn't there. The span is empty, at the text's
     /// end.
+    #[error("study refused: MissingBlock at bytes {}..{} ({block:?})", .1.from, .1.to, block = .0)]
     MissingBlock(Block, Span),
     /// There was no memory for the tree. The tokens have no fault.
+    #[error("out of memory")]
     NoMemory,
 }
 

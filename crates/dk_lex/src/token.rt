@@ -3,6 +3,7 @@ ghost use Rattle.std.specs.Prelude.{◌≡◌};
 
 use std::alloc::{AllocError, AllocFailed};
 use std::marker::Model;
+use thiserror::Error;
 
 /// The bytes of a text from one place up to another, which isn't of them. Places are counted in bytes from 0.
 #[derive(Clone, Copy, Debug, PartialEq, Eq)]
@@ -61,13 +62,16 @@ impl Tokens {
 }
 
 /// Why a text gives no tokens.
-#[derive(Clone, Copy, Debug, PartialEq, Eq)]
+#[derive(Clone, Copy, Debug, PartialEq, Eq, Error)]
 pub enum LexFault {
     /// A string that isn't closed in its line, from its quote to the line's end.
+    #[error("study refused: OpenString at bytes {}..{}", .0.from, .0.to)]
     OpenString(Span),
     /// A byte that may not stand where it does.
+    #[error("study refused: BadByte at bytes {}..{}", .0.from, .0.to)]
     BadByte(Span),
     /// There was no memory for the tokens.
+    #[error("out of memory")]
     NoMemory,
 }
 

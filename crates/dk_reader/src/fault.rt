@@ -1,6 +1,8 @@
 // Why a text says no study.
 use dk_lex::Span;
 use std::alloc::AllocError;
+use std::fmt;
+use thiserror::Error;
 
 /// The kinds of faults of a study's text.
 #[derive(Clone, Copy, Debug, PartialEq, Eq)]
@@ -41,19 +43,31 @@ pub enum StudyKind {
     OffGrid,
 }
 
+impl fmt::Display for StudyKind {
+    /// The name of the kind.
+    fn fmt<W: fmt::Write>(&self, f: &mut fmt::Formatter<W>) -> fmt::Result {
+        write!(f, "{self:?}")
+    }
+}
+
+impl std::error::Error for StudyKind {}
+
 /// A fault and the bytes of the text at which it stands.
-#[derive(Clone, Copy, Debug, PartialEq, Eq)]
+#[derive(Clone, Copy, Debug, PartialEq, Eq, Error)]
+#[error("study refused: {kind} at bytes {}..{}", .span.from, .span.to)]
 pub struct StudyFault {
     pub kind: StudyKind,
     pub span: Span,
 }
 
 /// Why no study was read.
-#[derive(Clone, Copy, Debug, PartialEq, Eq)]
+#[derive(Clone, Copy, Debug, PartialEq, Eq, Error)]
 pub enum ReadRefusal {
     /// The text's first fault.
+    #[error("{0}")]
     Study(StudyFault),
     /// There was no memory, which says nothing of the text.
+    #[error("out of memory")]
     NoMemory,
 }
 

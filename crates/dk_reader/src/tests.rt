@@ -2,6 +2,7 @@
 mod bytes;
 mod faults;
 mod ranges;
+mod refusals;
 mod studies;
 mod told;
 
