@@ -22,7 +22,13 @@ impl NoDisk {
 }
 
 impl Disk for NoDisk {
+    ghost use Rattle.std.specs.Prelude.{None};
+
+    ghost told = { λ _. None };
+
     ghost faults = { λ disk. disk.faults };
+
+    ghost shows = { λ _. tt };
 
     fn length(&mut self) -> Result<u64, Failed>
         ensures fails { IsErr result }
@@ -69,7 +75,25 @@ impl NoBench {
 }
 
 impl Bench for NoBench {
+    ghost use Rattle.std.specs.Prelude.{None, refl};
+
+    ghost held = { λ _. None };
+
+    ghost together = { λ _ parameters results. Unit {0} };
+
+    ghost leaves = { λ parameters attempt left. Unit {0} };
+
+    ghost after = { λ old new. Unit {0} };
+
     ghost faults = { λ bench. bench.faults };
+
+    ghost after_itself = { λ bench. tt };
+
+    ghost after_both = { λ first second third one other. tt };
+
+    ghost stays_silent = { λ old new after silent. refl };
+
+    ghost stay_together = { λ old new parameters results after one. tt };
 
     fn clear(&mut self, _name: &str) -> Result<(), Failed>
         ensures fails { IsErr result }

@@ -153,7 +153,13 @@ impl Idle {
 }
 
 impl Disk for Idle {
+    ghost use Rattle.std.specs.Prelude.{None};
+
+    ghost told = { λ _. None };
+
     ghost faults = { λ idle. idle.faults };
+
+    ghost shows = { λ _. tt };
 
     fn length(&mut self) -> Result<u64, Failed> {
         Err(fault(&mut self.faults))
@@ -173,7 +179,25 @@ impl Disk for Idle {
 }
 
 impl Bench for Idle {
+    ghost use Rattle.std.specs.Prelude.{None, refl};
+
+    ghost held = { λ _. None };
+
+    ghost together = { λ _ parameters results. Unit {0} };
+
+    ghost leaves = { λ parameters attempt left. Unit {0} };
+
+    ghost after = { λ old new. Unit {0} };
+
     ghost faults = { λ idle. idle.faults };
+
+    ghost after_itself = { λ bench. tt };
+
+    ghost after_both = { λ first second third one other. tt };
+
+    ghost stays_silent = { λ old new after silent. refl };
+
+    ghost stay_together = { λ old new parameters results after one. tt };
 
     fn clear(&mut self, _name: &str) -> Result<(), Failed> {
         Err(fault(&mut self.faults))
