@@ -1,0 +1,5 @@
+pub mod Calls
+pub mod Events
+pub mod Images
+pub mod States
+pub mod DiskStates

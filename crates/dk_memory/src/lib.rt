@@ -1,0 +1,17 @@
+//! The outside in memory, for tests and rehearsals. All that these objects hold is told, and their calls fail as a test
+//! says.
+#![tactic(auto)]
+
+mod calls;
+pub mod disk;
+mod event;
+pub mod image;
+mod kept;
+mod overwrite;
+pub mod sink;
+pub mod source;
+
+pub use disk::MemDisk;
+pub use image::Image;
+pub use sink::MemSink;
+pub use source::MemSource;
