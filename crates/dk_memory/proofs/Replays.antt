@@ -46,3 +46,6 @@ stood_at first events moment le =
     let place : length (course_of first events).earlier - moment ≡ length (drop moment events) = omega (arith, moments_counted first events, length-drop moment events) in
     ap (slice_get (moments (course_of first events))) place ∙
     read_front (moments (course_of first events)) (length (drop moment events)) early.now early.earlier (ap (λ (c : Course). drop (length (drop moment events)) (moments c)) is ∙ moments_before early (drop moment events))
+
+pub one_more_call : (first : List ℕ) (events new : List Event) (e : Event) → new ≡ events ++ e ∷ [] → course_of first new ≡ step (course_of first events) e
+one_more_call first events new e is = ap (course_of first) is ∙ fold-append step (start first) events (e ∷ [])

@@ -3,7 +3,7 @@ use Rattle.std.specs.Prelude.{◌≡◌, ◌⊎◌, ℕ, ◌-◌, ◌≤◌, Lis
 use Rattle.dk_outside.specs.declared.course.Stretch.{Stretch}
 use Rattle.dk_outside.specs.declared.course.Standing.{Standing}
 use Rattle.dk_outside.specs.declared.course.Course.{Course}
-use Rattle.dk_outside.specs.Disks.{moments, written_over}
+use Rattle.dk_outside.specs.Disks.{moments, IsImage, reach, written_over}
 use Rattle.dk_memory.specs.declared.image.Image.{Image}
 use Rattle.dk_memory.specs.declared.image.Image.TheVariants.{Old, New, Fill}
 
@@ -27,3 +27,9 @@ abbrev pub loosened : Image → (left bytes : List ℕ) → (at count : ℕ) →
 loosened Old left bytes at count = left
 loosened New left bytes at count = bytes
 loosened (Fill byte) left bytes at count = written_over left at (replicate count byte)
+
+-- each image that can be asked for is one that a crash may leave, and a fill has the greatest length
+pub record AreImages (s : Standing) : Type 0 where
+  pub shown : IsImage s s.bytes
+  pub filled_image : (byte : ℕ) → IsImage s (filled byte s.synced s.written)
+  pub longest : (byte : ℕ) → length (filled byte s.synced s.written) ≡ reach (length s.synced) s.written

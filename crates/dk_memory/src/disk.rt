@@ -53,7 +53,8 @@ impl MemDisk {
     /// An image of a moment, which isn't later than the present one.
     pub fn image(&self, moment: u64, image: Image) -> Result<Vec<u8>, AllocError>
         requires { moment ≤ length (disk_state self.now).course.earlier }
-        ensures { IfOk result (λ left. option_map (image_of image) (standing_at (disk_state self.now).course moment) ≡ Some left.items) }
+        ensures made { IfOk result (λ left. option_map (image_of image) (standing_at (disk_state self.now).course moment) ≡ Some left.items) }
+        ensures is_image { IfOk result (λ left. IfSome (standing_at (disk_state self.now).course moment) (λ standing. IsImage standing left.items)) }
     {
         self.kept.image(self.alloc, moment, image)
     }
@@ -67,11 +68,14 @@ impl MemDisk {
 }
 
 impl Disk for MemDisk {
+    ghost use Rattle.std.proofs.lemmas.List.Elements.{All-head};
+    ghost use Rattle.dk_memory.specs.Images.{AreImages};
+
     ghost told = { λ disk. Some (disk_state disk).course };
 
     ghost faults = { λ disk. (disk_state disk).calls.faults };
 
-    ghost shows = { λ disk. disk.kept.shown };
+    ghost shows = { λ disk. (All-head AreImages (disk_state disk).course.now (disk_state disk).course.earlier disk.kept.left).shown };
 
     fn length(&mut self) -> Result<u64, Failed>
         ensures length { HasLength (Some (disk_state self.old).course) result }

@@ -1,8 +1,8 @@
 // The calls that a disk in memory keeps, and the bytes that reads give.
-ghost use Rattle.std.specs.Prelude.{◌≡◌, ◌≤◌, length, vec_len, option_map, IfOk, OnOk, OnErr, Some};
-ghost use Rattle.dk_outside.specs.Disks.{IsImage, wrote, broke, all_synced};
+ghost use Rattle.std.specs.Prelude.{◌≡◌, ◌≤◌, All, length, option_map, IfOk, IfSome, OnOk, OnErr, Some};
+ghost use Rattle.dk_outside.specs.Disks.{IsImage, moments, wrote, broke, all_synced};
 ghost use Rattle.dk_memory.specs.Events.{start, course_of};
-ghost use Rattle.dk_memory.specs.Images.{image_of, standing_at};
+ghost use Rattle.dk_memory.specs.Images.{AreImages, image_of, standing_at};
 
 use crate::event::Event;
 use crate::image::{Image, replay};
@@ -16,11 +16,12 @@ pub struct Kept {
     events: Vec<Event>,
     bytes: Vec<u8>,
     ghost present: { bytes.items ≡ (course_of first.items events.items).now.bytes },
-    ghost shown: { IsImage (course_of first.items events.items).now (course_of first.items events.items).now.bytes },
+    ghost left: { All AreImages (moments (course_of first.items events.items)) },
 }
 
 impl Kept {
     /// These bytes, and no call.
+    #[tactic(auto, using(crate::proofs::Imaging::start_left))]
     pub fn of(alloc: Global, bytes: &[u8]) -> Result<Kept, AllocError>
         ensures { IfOk result (λ kept. course_of kept.first.items kept.events.items ≡ start bytes.now) }
     {
@@ -47,10 +48,11 @@ impl Kept {
     }
 
     /// An image of a moment, which isn't later than the present one.
-    #[tactic(auto, using(crate::proofs::Replays::moments_counted, crate::proofs::Replays::stood_at))]
+    #[tactic(auto, using(crate::proofs::Replays::moments_counted, crate::proofs::Replays::stood_at, crate::proofs::Imaging::made_image))]
     pub fn image(&self, alloc: Global, moment: u64, image: Image) -> Result<Vec<u8>, AllocError>
         requires { moment ≤ length (course_of self.now.first.items self.now.events.items).earlier }
-        ensures { IfOk result (λ left. option_map (image_of image) (standing_at (course_of self.now.first.items self.now.events.items) moment) ≡ Some left.items) }
+        ensures made { IfOk result (λ left. option_map (image_of image) (standing_at (course_of self.now.first.items self.now.events.items) moment) ≡ Some left.items) }
+        ensures is_image { IfOk result (λ left. IfSome (standing_at (course_of self.now.first.items self.now.events.items) moment) (λ standing. IsImage standing left.items)) }
     {
         replay(alloc, image, &self.first, &self.events[..moment as usize])
     }
@@ -61,19 +63,26 @@ impl Kept {
         ensures writes { OnOk result (course_of self.new.first.items self.new.events.items ≡ wrote at piece.now (course_of self.old.first.items self.old.events.items)) }
         ensures stays { OnErr result (course_of self.new.first.items self.new.events.items ≡ course_of self.old.first.items self.old.events.items) }
     {
-        overwrite(alloc, &mut self.bytes, &mut self.events, at, piece)
+        match overwrite(alloc, &mut self.bytes, &mut self.events, at, piece) {
+            Ok(()) => Ok(()),
+            Err(_) => Err(AllocError),
+        }
     }
 
     /// A write of so many bytes fails, and leaves what reads give. For want of memory all stays.
     pub fn fail_write(&mut self, at: usize, count: usize) -> Result<(), AllocError>
+        requires { at ≤ length (course_of self.old.first.items self.old.events.items).now.bytes }
         ensures breaks { OnOk result (course_of self.new.first.items self.new.events.items ≡ broke at count (course_of self.old.first.items self.old.events.items).now.bytes (course_of self.old.first.items self.old.events.items)) }
         ensures stays { OnErr result (course_of self.new.first.items self.new.events.items ≡ course_of self.old.first.items self.old.events.items) }
     {
-        self.events.push(Event::Broke { at, count })?;
-        Ok(())
+        match self.events.push(Event::Broke { at, count }) {
+            Ok(()) => Ok(()),
+            Err(_) => Err(AllocError),
+        }
     }
 
     /// What was written stands after a crash. For want of memory all stays.
+    #[tactic(auto, using(crate::proofs::Imaging::synced_left))]
     pub fn sync(&mut self) -> Result<(), AllocError>
         ensures syncs { OnOk result (course_of self.new.first.items self.new.events.items ≡ all_synced (course_of self.old.first.items self.old.events.items)) }
         ensures stays { OnErr result (course_of self.new.first.items self.new.events.items ≡ course_of self.old.first.items self.old.events.items) }
