@@ -1,14 +1,14 @@
 -- What can be asked for of a moment is what a crash may leave.
-use Rattle.std.proofs.Common.{◌≡◌, ◌⊎◌, ℕ, ◌+◌, ◌-◌, ◌<◌, ◌≤◌, max, List, [], ◌∷◌, ◌++◌, length, take, replicate, refl, sym, ◌∙◌, ap, subst, arith, Some, slice_get}
+use Rattle.std.proofs.Common.{◌≡◌, ℕ, ◌+◌, ◌-◌, ◌≤◌, List, [], ◌∷◌, ◌++◌, length, take, replicate, refl, sym, ◌∙◌, ap, subst, arith, Some, slice_get}
 use Rattle.std.specs.Prelude.{cond, is_ok, option_map, IfOk, IfSome, Option, None, Result, Ok, Err, OnOk, OnErr}
 use Rattle.std.specs.Global.{Vec}
 use Rattle.std.proofs.lemmas.List.{length-replicate}
 use Rattle.std.proofs.lemmas.List.Elements.{All-cons, All-nil, All-head, All-get_or}
 use Rattle.std.proofs.lemmas.Option.{slice_get_within, get_or_from_slice_get}
-use Rattle.std.specs.List.{fold, All}
+use Rattle.std.specs.List.{All}
 use Rattle.dk_outside.specs.declared.course.Course.{Course}
 use Rattle.dk_outside.specs.declared.course.Standing.{Standing}
-use Rattle.dk_outside.specs.Disks.{moments, IsImage, IsTorn, reach, settled, after_write, written_over, wrote, broke, all_synced}
+use Rattle.dk_outside.specs.Disks.{moments, IsImage, IsTorn, settled, after_write, written_over, wrote, broke, all_synced}
 use Rattle.dk_outside.proofs.Shown.{settled_shown, torn_shown, written_torn, same_torn, length-written_over}
 use Rattle.dk_memory.proofs.Replays.{one_more_call, stood_at}
 use Rattle.dk_memory.specs.Events.{step, course_of}
@@ -40,6 +40,7 @@ images_behind_write s at count bytes inside torn h = record {
   where
     within : (byte : ℕ) → at ≤ length (filled byte s.synced s.written)
     within byte = omega (arith, inside, h.shown.no_longer, h.longest byte)
+
     fits : (byte : ℕ) → IsTorn at count (filled byte s.synced s.written) (written_over (filled byte s.synced s.written) at (replicate (at + count - at) byte))
     fits byte =
         let long : length (replicate (at + count - at) byte) ≡ count = omega (arith, length-replicate (at + count - at) byte) in
@@ -96,8 +97,8 @@ behind_write first events new bytes now at piece (Ok done) is_now _ is_new _ ins
       subst (λ (c : Course). All AreImages (moments c)) (sym is) (wrote_left course at piece inside left),
     )
 behind_write first events new bytes now at piece (Err e) _ is_now _ is_new inside present left = (
-    is_now ∙ present ∙ sym (ap (λ (l : List Event). (course_of first l).now.bytes) is_new),
-    subst (λ (l : List Event). All AreImages (moments (course_of first l))) (sym is_new) left,
+  is_now ∙ present ∙ sym (ap (λ (l : List Event). (course_of first l).now.bytes) is_new),
+  subst (λ (l : List Event). All AreImages (moments (course_of first l))) (sym is_new) left,
 )
 
 -- a failed write that was kept, or for which there was no memory
@@ -111,8 +112,8 @@ behind_failed_write first events new bytes at count (Ok done) is_new inside pres
       subst (λ (c : Course). All AreImages (moments c)) (sym is) (broke_left (course_of first events) at count inside left),
     )
 behind_failed_write first events new bytes at count (Err e) is_new inside present left = (
-    present ∙ sym (ap (λ (l : List Event). (course_of first l).now.bytes) is_new),
-    subst (λ (l : List Event). All AreImages (moments (course_of first l))) (sym is_new) left,
+  present ∙ sym (ap (λ (l : List Event). (course_of first l).now.bytes) is_new),
+  subst (λ (l : List Event). All AreImages (moments (course_of first l))) (sym is_new) left,
 )
 
 -- what is made of the calls up to a moment is an image of that moment

@@ -42,4 +42,4 @@ pub record IsCounted {A E : Type 0} (old new : CallState) (due : Type 0) (result
 -- a call that may take memory: it fails where it is due, and where memory was wanting, which is counted apart
 pub record IsCountedGrowth {A E : Type 0} (old new : CallState) (due : Type 0) (result : Result A E) : Type 0 where
   pub ok : OnOk result ((due → ⊥) × (new ≡ called old))
-  pub err : OnErr result ((due × (new ≡ failed (called old))) ⊎ ((due → ⊥) × (new ≡ refused (called old))))
+  pub err : OnErr result ((due × (new ≡ failed (called old))) ⊎ (new ≡ refused (called old)))

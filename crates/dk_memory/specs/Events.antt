@@ -1,5 +1,5 @@
 -- How a disk in memory stands behind the calls that it keeps.
-use Rattle.std.specs.Prelude.{◌≡◌, ℕ, List, [], ◌∷◌, ◌++◌, length}
+use Rattle.std.specs.Prelude.{ℕ, List, [], length}
 use Rattle.std.specs.List.{fold}
 use Rattle.dk_outside.specs.declared.course.Course.{Course}
 use Rattle.dk_outside.specs.Disks.{settled, later, after_write, written_over}

@@ -1,5 +1,5 @@
 -- The images of a disk in memory that can be asked for.
-use Rattle.std.specs.Prelude.{◌≡◌, ◌⊎◌, ℕ, ◌-◌, ◌≤◌, List, [], ◌∷◌, length, replicate, slice_get, Option}
+use Rattle.std.specs.Prelude.{◌≡◌, ℕ, ◌-◌, List, [], ◌∷◌, length, replicate, slice_get, Option}
 use Rattle.dk_outside.specs.declared.course.Stretch.{Stretch}
 use Rattle.dk_outside.specs.declared.course.Standing.{Standing}
 use Rattle.dk_outside.specs.declared.course.Course.{Course}

@@ -1,9 +1,9 @@
 // A disk in memory.
-ghost use Rattle.std.specs.Prelude.{◌≡◌, ◌≤◌, length, vec_len, option_map, IfOk, IfSome, Some};
+ghost use Rattle.std.specs.Prelude.{◌≡◌, ◌⊎◌, ◌≤◌, length, option_map, IfOk, IfSome, OnErr, Some};
 ghost use Rattle.std.specs.Io.{ReadsAtMost};
 ghost use Rattle.dk_outside.specs.Causes.{HasCause};
-ghost use Rattle.dk_outside.specs.Disks.{IsImage, ReadsFrom, HasLength, Writes, Syncs};
-ghost use Rattle.dk_memory.specs.Calls.{fresh, IsDue, IsCounted, IsCountedGrowth};
+ghost use Rattle.dk_outside.specs.Disks.{IsImage, broke, ReadsFrom, HasLength, Writes, Syncs};
+ghost use Rattle.dk_memory.specs.Calls.{fresh, called, refused, IsDue, IsCounted, IsCountedGrowth};
 ghost use Rattle.dk_memory.specs.Events.{start, course_of};
 ghost use Rattle.dk_memory.specs.Images.{image_of, standing_at};
 ghost use Rattle.dk_memory.specs.DiskStates.{disk_state};
@@ -112,11 +112,14 @@ impl Disk for MemDisk {
         ensures writes { Writes (Some (disk_state self.old).course) (Some (disk_state self.new).course) result at bytes.now }
         ensures cause { HasCause (disk_state self.old).calls.faults (disk_state self.new).calls.faults result }
         ensures counted { IsCountedGrowth (disk_state self.old).calls (disk_state self.new).calls (IsDue (disk_state self.old).calls (disk_state self.new).calls.made) result }
+        ensures pending { OnErr result (((disk_state self.new).course ≡ broke at (length bytes.now) (disk_state self.old).course.now.bytes (disk_state self.old).course) ⊎ ((disk_state self.new).calls ≡ refused (called (disk_state self.old).calls))) }
     {
         let at = at as usize;
         if self.calls.is_due() {
-            let _ = self.kept.fail_write(at, bytes.len());
-            return Err(self.calls.fail());
+            return match self.kept.fail_write(at, bytes.len()) {
+                Ok(()) => Err(self.calls.fail()),
+                Err(_) => Err(self.calls.refuse()),
+            };
         }
         match self.kept.write(self.alloc, at, bytes) {
             Ok(()) => Ok(()),
@@ -129,7 +132,8 @@ impl Disk for MemDisk {
         ensures cause { HasCause (disk_state self.old).calls.faults (disk_state self.new).calls.faults result }
         ensures counted { IsCountedGrowth (disk_state self.old).calls (disk_state self.new).calls (IsDue (disk_state self.old).calls (disk_state self.new).calls.made) result }
     {
-        if self.calls.is_due() {
+        let due = self.calls.is_due();
+        if due {
             return Err(self.calls.fail());
         }
         match self.kept.sync() {

@@ -10,6 +10,8 @@ mod kept;
 mod overwrite;
 pub mod sink;
 pub mod source;
+#[cfg(test)]
+mod tests;
 
 pub use disk::MemDisk;
 pub use image::Image;
