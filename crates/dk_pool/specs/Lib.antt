@@ -1,2 +1,3 @@
 pub mod Pool
-pub mod Made
+pub mod Region
+pub mod Rows

@@ -2,6 +2,7 @@
 #![tactic(auto)]
 
 mod pool;
+mod region;
 #[cfg(test)]
 mod tests;
 

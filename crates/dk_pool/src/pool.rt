@@ -1,7 +1,7 @@
 // Rows of decimals, in room that is made once.
-ghost use Rattle.std.specs.Prelude.{◌≡◌, ◌+◌, ◌*◌, ◌^◌, ◌<◌, ◌≤◌, [], ◌∷◌, ◌++◌, All, length, take, slice_get, slice_set, Some, IfSome, IfOk};
-ghost use Rattle.dk_pool.specs.Made.{decimals_of};
+ghost use Rattle.std.specs.Prelude.{◌≡◌, ◌+◌, ◌*◌, ◌^◌, ◌<◌, ◌≤◌, [], ◌∷◌, ◌++◌, length, take, slice_get, Some, IfOk};
 
+use crate::region::Region;
 use dk_num::Dec;
 use std::alloc::{AllocError, Global};
 use std::marker::Model;
@@ -15,23 +15,40 @@ pub struct RowId {
 
 /// Rows of decimals of one width, in order, with room for a fixed number of rows.
 ///
-/// Contracts see the rows, the width and for how many more rows there is room. Only `reserve` takes memory.
-#[derive(Drop)]
+/// Contracts see the rows, the width and for how many more rows there is room. Only `reserve` takes memory: one region for
+/// all rows, in which they lie one behind another. It is given back with the pool. Rows of no decimals take none.
 pub struct Pool {
-    rows: Vec<Vec<Dec>>,
+    alloc: Global,
+    region: Option<Region<Dec, Global>>,
+    room: usize,
     count: usize,
     width: usize,
 }
 
 impl Model for Pool {
     ghost use Rattle.dk_pool.specs.Pool.{PoolState};
-    ghost use Rattle.dk_pool.specs.Made.{decimals_of, filled, AreMade};
+    ghost use Rattle.dk_pool.specs.Rows.{IsPool, pool_of};
 
     ghost Value = { PoolState };
 
-    ghost view = { λ p. filled (decimals_of p.rows.items) p.width p.count };
+    ghost view = { λ p. pool_of p.region p.room p.count p.width };
 
-    ghost invariant = { λ p. AreMade (decimals_of p.rows.items) p.width p.count };
+    ghost invariant = { λ p. IsPool p.alloc p.region p.room p.count p.width };
+}
+
+impl Drop for Pool {
+    fn drop(self) {
+        let Pool {
+            alloc,
+            region,
+            room: _,
+            count: _,
+            width: _,
+        } = self;
+        if let Some(region) = region {
+            region.give_back(&alloc);
+        }
+    }
 }
 
 impl Pool {
@@ -43,8 +60,16 @@ impl Pool {
         requires has_few_decimals { rows * width ≤ 2 ^ 25 }
         ensures begins_empty { IfOk result (λ p. p ≡ record { rows = []; width = width; spare = rows }) }
     {
+        let places = rows * width;
+        let region = if places == 0 {
+            None
+        } else {
+            Some(Region::reserve(&alloc, places)?)
+        };
         Ok(Pool {
-            rows: zero_rows(alloc, rows, width)?,
+            alloc,
+            region,
+            room: rows,
             count: 0,
             width,
         })
@@ -55,7 +80,7 @@ impl Pool {
         ensures gives_spare { result ≡ self.now.spare }
         ensures stays_small { length self.now.rows + self.now.spare < 2 ^ 32 }
     {
-        self.rows.len() - self.count
+        self.room - self.count
     }
 
     /// How many rows there are.
@@ -85,7 +110,9 @@ impl Pool {
         ensures names_row { result.index ≡ length self.old.rows }
     {
         let index = self.count as u32;
-        write_row(&mut self.rows, self.count, row);
+        if let Some(region) = &mut self.region {
+            region.write_all(self.count * self.width, row);
+        }
         self.count += 1;
         RowId { index }
     }
@@ -96,7 +123,10 @@ impl Pool {
         ensures lends_row { slice_get self.now.rows id.index ≡ Some result.now }
         ensures has_width { length result.now ≡ self.now.width }
     {
-        &self.rows[id.index as usize]
+        match &self.region {
+            Some(region) => region.view(id.index as usize * self.width, self.width),
+            None => &[],
+        }
     }
 
     /// Keeps so many of the first rows, of which there are at least as many, and removes the others.
@@ -110,32 +140,4 @@ impl Pool {
     {
         self.count = rows;
     }
-}
-
-/// So many rows of so many zeros.
-fn zero_rows(alloc: Global, rows: usize, width: usize) -> Result<Vec<Vec<Dec>>, AllocError>
-    ensures rows { IfOk result (λ made. length made.items ≡ rows) }
-    ensures width { IfOk result (λ made. All (λ row. length row ≡ width) (decimals_of made.items)) }
-{
-    let mut made = Vec::with_capacity(alloc, rows)?;
-    for _ in 0..rows {
-        made.push(zero_row(alloc, width)?)?;
-    }
-    Ok(made)
-}
-
-/// So many zeros.
-fn zero_row(alloc: Global, width: usize) -> Result<Vec<Dec>, AllocError>
-    ensures { IfOk result (λ row. length row.items ≡ width) }
-{
-    vec![in alloc; Dec::whole(0); width]
-}
-
-/// Copies a row into the made row at this place, which has its length.
-fn write_row(rows: &mut [Vec<Dec>], place: usize, row: &[Dec])
-    requires place { place < length rows.old }
-    requires long { IfSome (slice_get (decimals_of rows.old) place) (λ r. length r ≡ length row.now) }
-    ensures { decimals_of rows.new ≡ slice_set (decimals_of rows.old) place row.now }
-{
-    rows[place].copy_from_slice(row);
 }

@@ -1,6 +1,7 @@
 //! Pools of few rows.
 use crate::{Pool, RowId};
 use dk_num::Dec;
+use std::marker::{Send, Sync};
 use std::test::Fail;
 
 /// Two rows of one decimal each: they stand in order, and a removed row's room is used again.
@@ -35,10 +36,13 @@ fn rows_may_be_empty(rt: HostRuntime) -> Result<(), Fail> {
     Ok(())
 }
 
-/// A pool of no rows has room for none.
+fn is_send_and_sync<T: Send + Sync>(_value: &T) {}
+
+/// A pool of no rows has room for none. A pool may cross threads.
 #[test]
 fn a_pool_may_have_no_rows(rt: HostRuntime) -> Result<(), Fail> {
     let mut pool = Pool::reserve(rt.alloc(), 0, 3)?;
+    is_send_and_sync(&pool);
     assert_eq!(rt; (pool.count(), pool.spare(), pool.width()), (0, 0, 3));
     pool.truncate(0);
     assert_eq!(rt; (pool.count(), pool.spare(), pool.width()), (0, 0, 3));

@@ -1,26 +1,34 @@
-use Rattle.std.proofs.Common.{◌≡◌, ◌<◌, ◌∙◌, ℕ, List, ap, sym, get_or, length, take, arith}
-use Rattle.std.proofs.Math.ListN.{get_or-map}
-use Rattle.std.proofs.lemmas.List.{length-take-le}
-use Rattle.std.proofs.lemmas.List.Elements.{All-get_or}
-use Rattle.std.specs.Global.{Vec}
+use Rattle.std.proofs.Common.{◌∙◌, ◌*◌, List, Some, ap, sym, length, take, drop, arith}
 use Rattle.dk_num.specs.Decimal.{Decimal}
-use Rattle.dk_pool.specs.Made.{AreMade, decimals_of}
-use Rattle.dk_pool.specs.Pool.{PoolState}
+use Rattle.dk_pool.specs.Rows.{written}
+use Rattle.dk_pool.proofs.Cut.{empty_row, row_lies, row_is, row_wide}
 use Rattle.dk_pool.proofs.pool.Pool.row.Goals as goal
 
--- a row that is filled has the width
-filled_width : (made : List (Vec Decimal)) (width count i : ℕ) (row : Vec Decimal) → AreMade (decimals_of made) width count → i < length (take count (decimals_of made)) → row ≡ get_or made i row →
-    length row.items ≡ width
-filled_width made width count i row are within is =
-    let all = length-take-le count (decimals_of made) are.enough in
-    let enough = are.enough in
-    ap (λ (r : Vec Decimal). length r.items) is
-    ∙ ap length (sym (get_or-map (λ (r : Vec Decimal). r.items) made i row))
-    ∙ All-get_or (λ r. length r ≡ width) (decimals_of made) i row.items (omega arith) are.wide
+pub view-requires : goal.view-requires
+view-requires c =
+    let held = ap (λ r. length (written r)) c.in-Some.is in
+    omega (arith, row_lies _ _ _ _ _ _ c.self.view_is c.self.invariant _ c.requires.is_there)
 
-pub returns-clause-has_width : goal.returns-clause-has_width
-returns-clause-has_width c =
-    let within = rw (← c.self.view_is) at c.requires in
-    ap length c.deref.ensures.value
-    ∙ filled_width _ _ _ _ _ c.self.invariant (omega arith) c.index.ensures
-    ∙ ap (λ (p : PoolState). p.width) c.self.view_is
+pub returns-in-Some-clause-lends_row : goal.returns-in-Some-clause-lends_row
+returns-in-Some-clause-lends_row c =
+    row_is _ _ _ _ _ _ c.self.view_is c.self.invariant _ c.requires.is_there
+    ∙ ap (λ (xs : List Decimal). Some (take c.self.inside.width (drop (c.args.id.index * c.self.inside.width) xs))) (ap written c.in-Some.is)
+    ∙ ap Some (sym c.view.ensures)
+
+pub returns-in-Some-clause-has_width : goal.returns-in-Some-clause-has_width
+returns-in-Some-clause-has_width c =
+    ap length c.view.ensures
+    ∙ ap (λ (xs : List Decimal). length (take c.self.inside.width (drop (c.args.id.index * c.self.inside.width) xs))) (sym (ap written c.in-Some.is))
+    ∙ row_wide _ _ _ _ _ _ c.self.view_is c.self.invariant _ c.requires.is_there
+
+pub returns-in-None-clause-lends_row : goal.returns-in-None-clause-lends_row
+returns-in-None-clause-lends_row c =
+    row_is _ _ _ _ _ _ c.self.view_is c.self.invariant _ c.requires.is_there
+    ∙ ap (λ (xs : List Decimal). Some (take c.self.inside.width (drop (c.args.id.index * c.self.inside.width) xs))) (ap written c.in-None.is)
+    ∙ ap Some (empty_row c.self.inside.width (c.args.id.index * c.self.inside.width))
+
+pub returns-in-None-clause-has_width : goal.returns-in-None-clause-has_width
+returns-in-None-clause-has_width c =
+    ap length (sym (empty_row c.self.inside.width (c.args.id.index * c.self.inside.width)))
+    ∙ ap (λ (xs : List Decimal). length (take c.self.inside.width (drop (c.args.id.index * c.self.inside.width) xs))) (sym (ap written c.in-None.is))
+    ∙ row_wide _ _ _ _ _ _ c.self.view_is c.self.invariant _ c.requires.is_there

@@ -1,0 +1,5 @@
+pub mod Crossing
+pub mod Cut
+pub mod Lending
+pub mod Places
+pub mod Reached

@@ -1,0 +1,17 @@
+use Rattle.std.proofs.Common.{◌∙◌, ◌+◌, ap}
+use Rattle.dk_pool.specs.Rows.{rows_of, written}
+use Rattle.dk_pool.specs.declared.pool.Pool.TheInside.{Inside}
+use Rattle.dk_pool.proofs.Cut.{counted, row_put, row_counted}
+use Rattle.dk_pool.proofs.pool.Pool.put_row.Goals as goal
+use Rattle.dk_pool.proofs.pool.Pool.put_row.Goals.{in-Some, in_default}
+
+pub returns-clause-adds_row : goal.returns-clause-adds_row
+returns-clause-adds_row c = elim c.match-self.branch [
+  | in-Some w ↦ ap (λ (p : Inside). rows_of p.width (p.count + 1) (written p.region)) w.self-inside-is
+      ∙ row_put _ _ _ _ _ _ c.self.view_is c.self.invariant c.args.row.now c.requires.has_width w.in-Some.region w.write_all.new.self w.in-Some.is w.write_all.ensures.written w.write_all.ensures.reaches
+  | in_default w ↦ ap (λ (p : Inside). rows_of p.width (p.count + 1) (written p.region)) w.self-inside-is
+      ∙ row_counted _ _ _ _ _ _ c.self.view_is c.self.invariant c.args.row.now c.requires.has_width w.in_default.is c.requires.has_room
+]
+
+pub returns-clause-names_row : goal.returns-clause-names_row
+returns-clause-names_row c = counted _ _ _ _ _ _ c.self.view_is c.self.invariant
