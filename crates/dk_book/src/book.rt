@@ -116,6 +116,13 @@ impl Book {
         self.values.width()
     }
 
+    /// How many cards there are.
+    pub fn count(&self) -> usize
+        ensures gives_count { result ≡ length self.now.cards }
+    {
+        self.points.count()
+    }
+
     /// How many more points can get a card.
     pub fn spare(&self) -> usize
         ensures gives_spare { result ≡ self.now.spare }

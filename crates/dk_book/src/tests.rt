@@ -91,26 +91,6 @@ fn sayings(alloc: Global, failures: u8, is_made: bool) -> Result<String, AllocEr
     Ok(line)
 }
 
-/// A card whose first attempt failed is tried again, given up or has the rule's own values.
-#[test]
-fn rules_make_of_a_failure_what_they_say(rt: HostRuntime) -> Result<(), Fail> {
-    let alloc = rt.alloc();
-    let mut book = Book::reserve(alloc, 1, 1, 1, 1)?;
-    let card = book.place(&[Dec::whole(5)]);
-    assert_eq!(rt; card, FIRST);
-    book.add(card, 1, Outcome::Failed);
-    let retry = FailRule::Retry(1);
-    assert!(rt; matches!(book.answer(&retry, card), Answer::Next { attempt: 2 }));
-    let abort = FailRule::Abort;
-    assert!(rt; matches!(book.answer(&abort, card), Answer::Dead { attempts: 1 }));
-    let recover = FailRule::Recover(Decs::of(alloc, &[Dec::whole(7)])?);
-    match book.answer(&recover, card) {
-        Answer::Value(values) => assert_eq!(rt; values, [Dec::whole(7)].as_slice()),
-        _ => assert!(rt; false),
-    }
-    Ok(())
-}
-
 /// What cards come to under `Abort`, under a `Retry` of 2 and under a `Recover` of 9.
 #[test]
 fn cards_come_to_what_their_rule_allows(rt: HostRuntime) -> Result<(), Fail> {
@@ -145,15 +125,6 @@ fn cards_tell_their_attempts(rt: HostRuntime) -> Result<(), Fail> {
     Ok(())
 }
 
-/// A book for no cards has none, and finds none.
-#[test]
-fn a_book_may_have_no_cards(rt: HostRuntime) -> Result<(), Fail> {
-    let book = Book::reserve(rt.alloc(), 1, 1, 0, 0)?;
-    assert_eq!(rt; (book.spare(), book.room()), (0, 0));
-    assert_eq!(rt; book.find(&[Dec::whole(5)]), None);
-    Ok(())
-}
-
 /// A full book has the card of a point that is there, and a book that can take no values takes failures.
 #[test]
 fn a_full_book_keeps_its_cards(rt: HostRuntime) -> Result<(), Fail> {
@@ -163,10 +134,8 @@ fn a_full_book_keeps_its_cards(rt: HostRuntime) -> Result<(), Fail> {
     let card = book.place(&point);
     assert_eq!(rt; card, FIRST);
     book.add(card, 1, Outcome::Failed);
-    assert_eq!(rt; (book.spare(), book.room()), (0, 0));
-    assert_eq!(rt; book.find(&point), Some(FIRST));
     assert_eq!(rt; book.place(&point), FIRST);
-    assert_eq!(rt; (book.spare(), book.room()), (0, 0));
+    assert_eq!(rt; (book.count(), book.spare(), book.room()), (1, 0, 0));
     assert!(rt; matches!(book.said(card, 1), Some(Outcome::Failed)));
     Ok(())
 }
