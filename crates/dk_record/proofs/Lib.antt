@@ -1,0 +1,10 @@
+pub mod Bytes
+pub mod Once
+pub mod Shapes
+pub mod Again
+pub mod Numbers
+pub mod Fronts
+pub mod Readers
+pub mod Records
+pub mod Labels
+pub mod Worked

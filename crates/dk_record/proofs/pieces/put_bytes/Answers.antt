@@ -1,0 +1,7 @@
+use Rattle.std.proofs.Common.{◌+◌, ◌-◌, length, arith}
+use Rattle.std.proofs.lemmas.Slice.{drop-put_mid}
+use Rattle.dk_record.proofs.pieces.put_bytes.Goals as goal
+
+pub returns-clause-rest : goal.returns-clause-rest
+returns-clause-rest c =
+    drop-put_mid c.args.at (c.args.at + length c.args.piece.now - c.args.at) c.args.out.now c.copy_from_slice.new.self (c.args.at + length c.args.piece.now) (omega arith) (omega arith) (omega arith)

@@ -1,0 +1,4 @@
+pub mod Payloads
+pub mod Readings
+pub mod Files
+pub mod Laws
