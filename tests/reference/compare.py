@@ -71,8 +71,9 @@ class Case:
     def wrong_words(random, name):
         """Words that are mostly wrong."""
         if random.random() < 0.5:
-            some = [b"-i", b"-i", b"-input", b"-check", b"-check", name, name, b"", b"-x", b"--help", b"--version", b"-Check", b"check"]
-            words = random.choices(some, k=random.randrange(6))
+            some = [b"-i", b"-i", b"-input", b"-check", b"-check", b"-r", b"-read_restart", b"-w", b"-write_restart"]
+            some += [name, name, name, b"", b"-x", b"--help", b"--version", b"-Check", b"check"]
+            words = random.choices(some, k=random.randrange(8))
             return words if words not in LONELY_WORDS else []
         return random.choice(
             [
@@ -89,6 +90,16 @@ class Case:
                 [b"-i", name, b""],
                 [b"-i", name, b"-i"],
                 [b"-i", name, b"-o", b"out"],
+                [b"-i", b"-r"],
+                [b"-i", name, b"-r"],
+                [b"-i", name, b"-r", b"x"],
+                [b"-i", name, b"-r", b"x", b"-w", b"y"],
+                [b"-w", b"y", b"-read_restart", b"x", b"-i"],
+                [b"-r", b"x", b"-read_restart", b"y", b"-i", name],
+                [b"-write_restart", b"", b"-i", name],
+                [b"-check", b"-r", b"x", b"-i", name],
+                [b"-r", b"x", b"-check", b"-i", name],
+                [b"-i", name, b"-check", b"-w"],
                 [b"-i", b"", name],
                 [b"-i", b"-x", b"y"],
                 [b"-I", name],

@@ -153,28 +153,47 @@ class Misused(Exception):
         self.place = place
 
 
+OPTIONS = {
+    "-i": "input",
+    "-input": "input",
+    "-r": "read",
+    "-read_restart": "read",
+    "-w": "write",
+    "-write_restart": "write",
+    "-check": "check",
+}
+
+# Of these only one may stand.
+APART = {"read", "write", "check"}
+
+
 def read_words(words):
     """The study's file, and whether it is only checked."""
     try:
         words = [os.fsencode(it).decode() for it in words]
     except UnicodeDecodeError:
         raise Misused(1) from None
-    name, is_check, rest = None, False, list(enumerate(words, 1))
+    files, places, rest = {}, {}, list(enumerate(words, 1))
     while rest:
         place, word = rest.pop(0)
-        if word == "-check" and not is_check:
-            is_check = True
-        elif word in ("-i", "-input") and name is None:
-            if not rest:
-                raise Misused(place + 1)
-            place, name = rest.pop(0)
-            if not name or name.startswith("-"):
-                raise Misused(place)
-        else:
+        option = OPTIONS.get(word)
+        if option is None or option in places or (option in APART and APART & set(places)):
             raise Misused(place)
-    if name is None:
+        places[option] = place
+        if option == "check":
+            continue
+        if not rest:
+            raise Misused(place + 1)
+        place, files[option] = rest.pop(0)
+        if not files[option] or files[option].startswith("-"):
+            raise Misused(place)
+    if "input" not in files:
         raise Misused(len(words) + 1)
-    return name, is_check
+    for option in ("read", "write"):
+        # A run has no restart file so far.
+        if option in places:
+            raise Misused(places[option])
+    return files["input"], "check" in places
 
 
 def refusal(kind, start=0, end=0):

@@ -41,7 +41,10 @@ pub fn carry_out<R: Files + AllocGlobal, U: Sink>(rt: &R, words: &[String], out:
         return print_text(text, out);
     }
     match command(rt.alloc(), words) {
-        Ok(Command::Run { input }) => run_file(rt, words, input.as_str(), out),
+        Ok(Command::Run { input, .. }) => match restart_option(words) {
+            Some(at) => usage(at, out),
+            None => run_file(rt, words, input.as_str(), out),
+        },
         Ok(Command::Check { input }) => {
             let mut study = FileSource::new(rt, input.as_str());
             check(rt.alloc(), words, &mut study, out)
@@ -71,6 +74,19 @@ fn text_asked_for(words: &[String]) -> Option<&'static str> {
         "--version" => Some(VERSION),
         _ => None,
     }
+}
+
+/// The place of an option that names a restart file, which a run doesn't have so far. A FILE doesn't begin with `-`.
+fn restart_option(words: &[String]) -> Option<u32> {
+    for (word, at) in words.iter().zip(1u32..=u32::MAX) {
+        if matches!(
+            word.as_str(),
+            "-r" | "-read_restart" | "-w" | "-write_restart"
+        ) {
+            return Some(at);
+        }
+    }
+    None
 }
 
 /// Prints a text that was asked for.

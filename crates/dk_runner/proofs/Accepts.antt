@@ -10,8 +10,8 @@ use Rattle.dk_reader.specs.Reading.{Reads, HasFault, Says, EachTextSays}
 use Rattle.dk_reader.proofs.Says.{each_says}
 use Rattle.dk_runner.specs.Accepted.{Accepts, Refused, too_long, faulty, unbuilt, serves, at_beginning}
 use Rattle.dk_runner.specs.Headline.{WithoutTable}
-use Rattle.dk_runner.specs.declared.purpose.Purpose.{Purpose}
-use Rattle.dk_runner.specs.declared.purpose.Purpose.TheVariants.{Run}
+use Rattle.dk_words.specs.declared.purpose.Purpose.{Purpose}
+use Rattle.dk_words.specs.declared.purpose.Purpose.TheVariants.{Run}
 
 -- what the reader's definitions say of a text
 abbrev Outcome : Type 0

@@ -3,11 +3,11 @@ use Rattle.std.proofs.Common.{inl, inr, ℕ, List, refl}
 use Rattle.std.specs.Prelude.{IfSome}
 use Rattle.dk_outside.specs.Causes.{Rose}
 use Rattle.dk_reader.specs.declared.fault.StudyFault.{StudyFault}
-use Rattle.dk_runner.specs.Words.{IsFor}
+use Rattle.dk_words.specs.Words.{IsFor}
 use Rattle.dk_runner.specs.Accepted.{Refused}
 use Rattle.dk_runner.specs.Headline.{TellsRefusal}
 use Rattle.dk_runner.specs.Checked.{EndsAccepted, Stage, ChecksSo}
-use Rattle.dk_runner.specs.declared.purpose.Purpose.TheVariants.{Check}
+use Rattle.dk_words.specs.declared.purpose.Purpose.TheVariants.{Check}
 use Rattle.dk_runner.specs.declared.status.Status.{Status}
 use Rattle.dk_runner.specs.declared.status.Status.TheVariants.{Finished, Aborted, Usage, StudyRefused, SourceFault, SinkFault, NoMemory}
 use Rattle.dk_runner.specs.declared.status.Which.TheVariants.{Table, Out}

@@ -9,15 +9,15 @@ use Rattle.dk_types.specs.declared.rows.Row.{Row}
 use Rattle.dk_types.specs.Solo.{Solo, rosenbrock_child}
 use Rattle.dk_types.specs.Laws.{EndsOnce}
 use Rattle.dk_types.proofs.Once.{each_ends_once}
-use Rattle.dk_runner.specs.Words.{IsFor, Misused}
+use Rattle.dk_words.specs.Words.{IsFor, Misused}
 use Rattle.dk_runner.specs.Accepted.{Refused}
 use Rattle.dk_reader.specs.declared.fault.StudyFault.{StudyFault}
 use Rattle.dk_runner.proofs.Accepts.{one_accepted, not_both}
 use Rattle.dk_runner.specs.Lines.{status_of}
 use Rattle.dk_runner.specs.Headline.{Written, Evaluates, EndsAsEvaluated}
 use Rattle.dk_runner.specs.Endings.{Scene, EndsSo}
-use Rattle.dk_runner.specs.declared.purpose.Purpose.{Purpose}
-use Rattle.dk_runner.specs.declared.purpose.Purpose.TheVariants.{Run}
+use Rattle.dk_words.specs.declared.purpose.Purpose.{Purpose}
+use Rattle.dk_words.specs.declared.purpose.Purpose.TheVariants.{Run}
 use Rattle.dk_runner.specs.declared.status.Status.{Status}
 use Rattle.dk_runner.specs.declared.status.Status.TheVariants.{Finished, Aborted, Usage, StudyRefused, SourceFault, SinkFault, NoMemory}
 use Rattle.dk_runner.specs.declared.status.Which.TheVariants.{Table, Out}

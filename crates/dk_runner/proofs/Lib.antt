@@ -4,10 +4,7 @@ pub mod Evaluations
 pub mod Reported
 pub mod Saying
 pub mod Told
-pub mod WordsSorted
-pub mod WordsTold
 pub mod CheckTold
-pub mod WordsOrder
 pub mod Pooled
 pub mod Settling
 pub mod SoFar

@@ -5,10 +5,10 @@ use Rattle.dk_types.specs.declared.study.Study.{Study}
 use Rattle.dk_types.specs.declared.study.Ending.{Ending}
 use Rattle.dk_types.specs.declared.rows.Row.{Row}
 use Rattle.dk_types.specs.Solo.{Solo, rosenbrock_child}
-use Rattle.dk_runner.specs.Words.{IsFor}
+use Rattle.dk_words.specs.Words.{IsFor}
 use Rattle.dk_runner.specs.Accepted.{Accepts}
 use Rattle.dk_runner.specs.Endings.{Scene, EndsSo, Reports}
-use Rattle.dk_runner.specs.declared.purpose.Purpose.TheVariants.{Run}
+use Rattle.dk_words.specs.declared.purpose.Purpose.TheVariants.{Run}
 use Rattle.dk_runner.specs.declared.status.Status.{Status}
 use Rattle.dk_runner.specs.declared.status.Status.TheVariants.{Finished, Aborted, Usage, StudyRefused, SourceFault, SinkFault, NoMemory}
 use Rattle.dk_runner.specs.declared.status.Which.TheVariants.{Table, Out}

@@ -4,12 +4,12 @@ use Rattle.std.specs.Prelude.{IfSome}
 use Rattle.dk_outside.specs.Causes.{Rose}
 use Rattle.dk_types.specs.declared.study.Study.{Study}
 use Rattle.dk_reader.specs.declared.fault.StudyFault.{StudyFault}
-use Rattle.dk_runner.specs.Words.{IsFor}
+use Rattle.dk_words.specs.Words.{IsFor}
 use Rattle.dk_runner.specs.Accepted.{Accepts, Refused}
 use Rattle.dk_runner.specs.Headline.{TellsRefusal}
 use Rattle.dk_runner.specs.Endings.{Scene, EndsSo}
-use Rattle.dk_runner.specs.declared.purpose.Purpose.{Purpose}
-use Rattle.dk_runner.specs.declared.purpose.Purpose.TheVariants.{Run}
+use Rattle.dk_words.specs.declared.purpose.Purpose.{Purpose}
+use Rattle.dk_words.specs.declared.purpose.Purpose.TheVariants.{Run}
 use Rattle.dk_runner.specs.declared.status.Status.{Status}
 use Rattle.dk_runner.specs.declared.status.Status.TheVariants.{Finished, Aborted, Usage, StudyRefused, SourceFault, SinkFault, NoMemory}
 use Rattle.dk_runner.specs.declared.status.Which.TheVariants.{Table, Out}

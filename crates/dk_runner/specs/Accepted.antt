@@ -8,8 +8,8 @@ use Rattle.dk_reader.specs.Reading.{Reads, HasFault}
 use Rattle.dk_reader.specs.declared.fault.StudyFault.{StudyFault}
 use Rattle.dk_reader.specs.declared.fault.StudyKind.{StudyKind}
 use Rattle.dk_reader.specs.declared.fault.StudyKind.TheVariants.{TooLong, Unsupported}
-use Rattle.dk_runner.specs.declared.purpose.Purpose.{Purpose}
-use Rattle.dk_runner.specs.declared.purpose.Purpose.TheVariants.{Run, Check}
+use Rattle.dk_words.specs.declared.purpose.Purpose.{Purpose}
+use Rattle.dk_words.specs.declared.purpose.Purpose.TheVariants.{Run, Check}
 
 -- the program's own function
 abbrev pub is_built_driver : Driver → Bool

@@ -2,9 +2,9 @@
 use Rattle.std.specs.Prelude.{ℕ, List, Option, Result, Ok, Err, IfSome}
 use Rattle.dk_outside.specs.Causes.{Rose}
 use Rattle.dk_types.specs.declared.study.Study.{Study}
-use Rattle.dk_runner.specs.Words.{IsFor, Misused}
+use Rattle.dk_words.specs.Words.{IsFor, Misused}
 use Rattle.dk_runner.specs.Accepted.{Accepts, Refused}
-use Rattle.dk_runner.specs.declared.purpose.Purpose.{Purpose}
+use Rattle.dk_words.specs.declared.purpose.Purpose.{Purpose}
 use Rattle.dk_runner.specs.declared.status.Status.{Status}
 use Rattle.dk_runner.specs.declared.status.Status.TheVariants.{Usage, StudyRefused, SourceFault, NoMemory}
 

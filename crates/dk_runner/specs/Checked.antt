@@ -3,12 +3,12 @@ use Rattle.std.specs.Prelude.{◌≡◌, ◌⊎◌, ℕ, List, ◌++◌, length,
 use Rattle.dk_outside.specs.Causes.{Rose}
 use Rattle.dk_outside.specs.Sinks.{Held, Grows, GrowsByFront}
 use Rattle.dk_types.specs.declared.study.Study.{Study}
-use Rattle.dk_runner.specs.Words.{IsFor}
+use Rattle.dk_words.specs.Words.{IsFor}
 use Rattle.dk_runner.specs.Accepted.{Accepts}
 use Rattle.dk_runner.specs.Causes.{IsCause}
 use Rattle.dk_runner.specs.Lines.{line}
 use Rattle.dk_runner.specs.Headline.{Says}
-use Rattle.dk_runner.specs.declared.purpose.Purpose.TheVariants.{Check}
+use Rattle.dk_words.specs.declared.purpose.Purpose.TheVariants.{Check}
 use Rattle.dk_runner.specs.declared.status.Status.{Status}
 use Rattle.dk_runner.specs.declared.status.Status.TheVariants.{Finished, SinkFault, NoMemory}
 use Rattle.dk_runner.specs.declared.status.Which.TheVariants.{Out}

@@ -6,14 +6,14 @@ use Rattle.dk_types.specs.declared.study.Study.{Study}
 use Rattle.dk_types.specs.declared.study.Ending.{Ending}
 use Rattle.dk_types.specs.declared.rows.Row.{Row}
 use Rattle.dk_types.specs.Texts.{table, summary}
-use Rattle.dk_runner.specs.Words.{IsFor}
+use Rattle.dk_words.specs.Words.{IsFor}
 use Rattle.dk_runner.specs.Causes.{IsCause}
 use Rattle.dk_runner.specs.Lines.{line, status_of}
 use Rattle.dk_report.specs.Tables.{HasTable, HasFront}
 use Rattle.dk_runner.specs.Headline.{Written, BreaksTable, BreaksSummary, Says}
 use Rattle.dk_runner.specs.declared.status.Status.{Status}
 use Rattle.dk_runner.specs.declared.status.Status.TheVariants.{Finished, Aborted, SinkFault}
-use Rattle.dk_runner.specs.declared.purpose.Purpose.TheVariants.{Run}
+use Rattle.dk_words.specs.declared.purpose.Purpose.TheVariants.{Run}
 use Rattle.dk_runner.specs.declared.status.Which.TheVariants.{Table, Out}
 
 -- how the summary of a decided study was written

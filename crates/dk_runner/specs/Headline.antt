@@ -10,8 +10,8 @@ use Rattle.dk_types.specs.Texts.{table, summary}
 use Rattle.dk_report.specs.Tables.{HasTable, HasFront}
 use Rattle.dk_reader.specs.Reading.{Reads}
 use Rattle.dk_runner.specs.Accepted.{Accepts, Refused}
-use Rattle.dk_runner.specs.declared.purpose.Purpose.{Purpose}
-use Rattle.dk_runner.specs.declared.purpose.Purpose.TheVariants.{Run}
+use Rattle.dk_words.specs.declared.purpose.Purpose.{Purpose}
+use Rattle.dk_words.specs.declared.purpose.Purpose.TheVariants.{Run}
 use Rattle.dk_runner.specs.Lines.{status_of}
 use Rattle.dk_runner.specs.declared.status.Status.{Status}
 use Rattle.dk_runner.specs.declared.status.Status.TheVariants.{StudyRefused, NoMemory}

@@ -1,5 +1,3 @@
-pub mod Words
-pub mod Sorting
 pub mod Pools
 pub mod Evaluated
 pub mod Accepted

@@ -7,8 +7,8 @@ ghost use Rattle.dk_runner.specs.Causes.{IsVerdict, IsReason};
 ghost use Rattle.dk_runner.specs.Lines.{is_early, is_read};
 
 use crate::built::serves;
-use crate::purpose::Purpose;
-use crate::words::usage_for;
+use crate::Purpose;
+use dk_words::usage_for;
 use crate::{Span, Status, StudyFault, StudyKind};
 use dk_outside::Source;
 use dk_outside::source::{TextFault, read_text};

@@ -2,7 +2,7 @@
 ghost use Rattle.std.specs.Prelude.{◌≡◌};
 ghost use Rattle.dk_runner.specs.Accepted.{is_built as is_built_defined, is_built_driver as is_built_driver_defined, serves as serves_defined};
 
-use crate::purpose::Purpose;
+use crate::Purpose;
 use dk_types::{Driver, Study};
 
 /// Whether a run or a check takes a study: a run those that are evaluated so far, and a check each.

@@ -8,10 +8,10 @@ ghost use Rattle.dk_runner.specs.Accepted.{Refused};
 ghost use Rattle.dk_runner.specs.Checked.{TellsAccepted, BreaksAccepted, EndsAccepted, TellsStudy, ChecksSo, accepted_line, stage};
 ghost use Rattle.dk_runner.specs.Headline.{Says, OnlyGrows, TellsRefusal};
 ghost use Rattle.dk_runner.specs.Lines.{line, is_read, has_line};
-ghost use Rattle.dk_runner.specs.Words.{IsFor, Misused};
+ghost use Rattle.dk_words.specs.Words.{IsFor, Misused};
 
 use crate::accept::accept;
-use crate::purpose::Purpose;
+use crate::Purpose;
 use crate::refusal::refuse;
 use crate::{Status, Which};
 use dk_outside::{Failed, Sink, Source, Writer};

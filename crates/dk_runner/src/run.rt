@@ -8,12 +8,12 @@ ghost use Rattle.dk_runner.specs.Accepted.{Refused};
 ghost use Rattle.dk_runner.specs.Endings.{EndsSo, Reports, Summarizes, scene};
 ghost use Rattle.dk_runner.specs.Headline.{Written, BreaksTable, BreaksSummary, Says, OnlyGrows, EndsAsEvaluated, TellsRefusal, WithoutTable};
 ghost use Rattle.dk_runner.specs.Lines.{line, status_of as status_of_defined, is_decided, is_early, is_read, has_line};
-ghost use Rattle.dk_runner.specs.Words.{IsFor, Misused};
+ghost use Rattle.dk_words.specs.Words.{IsFor, Misused};
 
 use crate::accept::accept;
 use crate::evaluate::{Ran, evaluate};
 use crate::evaluator::Direct;
-use crate::purpose::Purpose;
+use crate::Purpose;
 use crate::refusal::refuse;
 use crate::{Status, Which};
 use dk_outside::{Bench, Disk, Failed, Sink, Source};

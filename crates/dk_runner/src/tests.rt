@@ -1,13 +1,12 @@
 //! Whole runs over a source and sinks in memory.
 mod checks;
-mod command_line;
 mod evaluators;
 mod fakes;
 mod sizes;
 mod studies;
 mod texts;
 
-use crate::{Span, Status, StudyFault, StudyKind, Which, dakota};
+use crate::{Span, Status, StudyFault, StudyKind, Which, dakota, usage};
 use fakes::{Given, Idle, Kept};
 use std::alloc::{AllocError, Global};
 use std::process::Abort;
@@ -333,4 +332,11 @@ fn statuses_have_their_codes(rt: HostRuntime) {
     for (status, code) in cases {
         assert_eq!(rt; status.code(), code);
     }
+}
+
+#[test]
+fn usage_is_told(rt: HostRuntime) {
+    let mut out = Kept::new(rt.alloc(), 1000);
+    assert_eq!(rt; usage(7, &mut out), Status::Usage { at: 7 });
+    assert_eq!(rt; out.taken(), "dakota: usage: word 7\n".as_bytes());
 }

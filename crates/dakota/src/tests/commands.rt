@@ -83,7 +83,7 @@ type Case = (
     &'static str,
 );
 
-const CASES: [Case; 17] = [
+const CASES: [Case; 18] = [
     (&["-i", STUDY], PLAIN, TABLE, 0, FINISHED, ROWS),
     (&["-input", "./s.in"], PLAIN, TABLE, 0, FINISHED, ROWS),
     (&["-i", STUDY], UNEVEN, TABLE, 1, ABORTED, FIRST_ROW),
@@ -103,6 +103,14 @@ const CASES: [Case; 17] = [
     ),
     (
         &["-i", STUDY, "-o", "out"],
+        PLAIN,
+        TABLE,
+        2,
+        "dakota: usage: word 3\n",
+        OLDER,
+    ),
+    (
+        &["-i", STUDY, "-w", "x.rst"],
         PLAIN,
         TABLE,
         2,

@@ -1,5 +1,0 @@
-use Rattle.dk_runner.proofs.WordsTold.{each}
-use Rattle.dk_runner.proofs.laws.each_command_or_place.Goals as goal
-
-pub returns : goal.returns
-returns c = each

@@ -1,5 +1,0 @@
-use Rattle.dk_runner.proofs.WordsOrder.{each_in_order}
-use Rattle.dk_runner.proofs.laws.each_fault_in_order.Goals as goal
-
-pub returns : goal.returns
-returns c = each_in_order

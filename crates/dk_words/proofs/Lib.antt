@@ -1,0 +1,4 @@
+pub mod Firsts
+pub mod WordsSorted
+pub mod WordsTold
+pub mod WordsOrder
