@@ -4,8 +4,8 @@ ghost use Rattle.std.specs.Io.{ReadsAtMost};
 ghost use Rattle.dk_outside.specs.Benches.{IsAtMost};
 ghost use Rattle.dk_outside.specs.Causes.{HasCause};
 
-use crate::faults::fault;
 use dk_outside::{Bench, Call, Disk, Failed, Fetched};
+use dk_real::fault;
 
 /// No disk: each call fails.
 #[derive(Drop)]

@@ -7,9 +7,9 @@ ghost use Rattle.dk_runner.specs.Lines.{line};
 ghost use Rattle.dk_runner.specs.declared.status.Status.TheVariants.{Finished, NoMemory, SinkFault};
 
 use crate::absent::{NoBench, NoDisk};
-use crate::files::{FileSink, FileSource};
 use dk_outside::Sink;
 use dk_outside::sink::write_all;
+use dk_real::{FileSink, FileSource};
 use dk_runner::{Command, CommandFault, Status, Which, check, command, dakota, usage, write_line};
 use std::alloc::{AllocError, Global};
 use std::rt::Files;
@@ -116,7 +116,8 @@ fn run_file<R: Files + AllocGlobal, U: Sink>(
         return end_without_memory(out);
     };
     let mut study = FileSource::new(rt, path);
-    let mut table = FileSink::new(rt, path);
+    // No restart file is opened yet, so the study's place is the only one that is taken.
+    let mut table = FileSink::new(rt, path, path);
     let ended = dakota(
         rt.alloc(),
         words,

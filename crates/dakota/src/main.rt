@@ -3,14 +3,11 @@
 
 mod absent;
 mod carry_out;
-mod faults;
-mod files;
-mod terminal;
 #[cfg(test)]
 mod tests;
 
 use crate::carry_out::{carry_out, end_without_memory};
-use crate::terminal::OutSink;
+use dk_real::OutSink;
 use std::alloc::AllocError;
 use std::io::ErrorKind;
 use std::process::ExitCode;

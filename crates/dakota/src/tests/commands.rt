@@ -1,7 +1,7 @@
 // Commands with their exit status, what they print and the table that they leave.
 use super::outputs::{Closed, Page};
 use crate::carry_out::{HELP, VERSION, carry_out};
-use crate::terminal::OutSink;
+use dk_real::OutSink;
 use std::alloc::{AllocError, Global};
 use std::fs;
 use std::rt::Files;

@@ -1,6 +1,6 @@
 // Standard outputs in memory, and one that is closed.
-use crate::faults::fault;
 use dk_outside::{Failed, Sink};
+use dk_real::fault;
 use std::alloc::Global;
 use std::fmt::Display;
 use std::io;

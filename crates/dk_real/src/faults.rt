@@ -1,10 +1,11 @@
 // Calls of the system, and the count of those that failed.
-ghost use Rattle.std.specs.Prelude.{◌≡◌, ◌<◌, ◌≤◌, length, IfOk, IfSome, IsErr, IsNone};
+ghost use Rattle.std.specs.Prelude.{◌≡◌, ◌<◌, ◌≤◌, length, IfOk, IfSome, IsErr, IsNone, MatchResult, Ok};
 ghost use Rattle.std.specs.Io.{ReadsAtMost};
 ghost use Rattle.std.specs.Io.KnownBytes.{ReadConsumes, WriteAppends};
 ghost use Rattle.dk_outside.specs.Causes.{HasCause, Rose};
 
 use dk_outside::Failed;
+use std::io;
 use std::io::{Read, Write};
 
 /// Counts one fault more, up to the last value of a count.
@@ -14,6 +15,17 @@ pub fn fault(count: &mut u64) -> Failed
 {
     *count = count.saturating_add(1);
     Failed
+}
+
+/// The answer of a call of the system, which is counted where it failed.
+pub fn counted<T: Drop>(answer: io::Result<T>, count: &mut u64) -> Result<T, Failed>
+    ensures same { MatchResult result (λ value. answer ≡ Ok value) (λ _. IsErr answer) }
+    ensures cause { HasCause count.old count.new result }
+{
+    match answer {
+        Ok(value) => Ok(value),
+        Err(_) => Err(fault(count)),
+    }
 }
 
 /// Reads once, where there is something to read from.
