@@ -7,13 +7,12 @@ ghost use Rattle.dk_runner.specs.Causes.{IsVerdict, IsReason};
 ghost use Rattle.dk_runner.specs.Lines.{is_early, is_read};
 
 use crate::built::serves;
-use crate::Purpose;
-use dk_words::usage_for;
-use crate::{Span, Status, StudyFault, StudyKind};
+use crate::{Purpose, Span, Status, StudyFault, StudyKind};
 use dk_outside::Source;
 use dk_outside::source::{TextFault, read_text};
 use dk_reader::{ReadRefusal, read_study};
 use dk_types::Study;
+use dk_words::usage_for;
 use std::alloc::Global;
 
 /// The study that the words and the source give for a run or a check, or why they give none.

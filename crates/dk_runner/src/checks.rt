@@ -11,9 +11,8 @@ ghost use Rattle.dk_runner.specs.Lines.{line, is_read, has_line};
 ghost use Rattle.dk_words.specs.Words.{IsFor, Misused};
 
 use crate::accept::accept;
-use crate::Purpose;
 use crate::refusal::refuse;
-use crate::{Status, Which};
+use crate::{Purpose, Status, Which};
 use dk_outside::{Failed, Sink, Source, Writer};
 use dk_report::put_number;
 use dk_types::Study;

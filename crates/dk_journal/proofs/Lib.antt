@@ -1,0 +1,15 @@
+pub mod Covering
+pub mod Rewriting
+pub mod Safe
+pub mod Gates
+pub mod Putting
+pub mod Appending
+pub mod Chains
+pub mod Bearing
+pub mod Leaving
+pub mod Refusals
+pub mod Judged
+pub mod Opens
+pub mod Due
+pub mod Walked
+pub mod Read

@@ -1,0 +1,11 @@
+pub mod Covers
+pub mod Rests
+pub mod Journals
+pub mod Sessions
+pub mod Births
+pub mod Crashes
+pub mod Walks
+pub mod Damages
+pub mod Fetches
+pub mod Openings
+pub mod Judging
