@@ -78,15 +78,14 @@ fn text_asked_for(words: &[String]) -> Option<&'static str> {
 
 /// The place of an option that names a restart file, which a run doesn't have so far. A FILE doesn't begin with `-`.
 fn restart_option(words: &[String]) -> Option<u32> {
-    for (word, at) in words.iter().zip(1u32..=u32::MAX) {
-        if matches!(
-            word.as_str(),
-            "-r" | "-read_restart" | "-w" | "-write_restart"
-        ) {
-            return Some(at);
-        }
-    }
-    None
+    let before = words
+        .iter()
+        .position(|word| is_restart_option(word.as_str()))?;
+    u32::try_from(before).ok()?.checked_add(1)
+}
+
+fn is_restart_option(word: &str) -> bool {
+    matches!(word, "-r" | "-read_restart" | "-w" | "-write_restart")
 }
 
 /// Prints a text that was asked for.
