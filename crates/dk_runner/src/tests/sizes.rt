@@ -22,20 +22,30 @@ fn grid(alloc: Global, method: &str) -> Result<Given, AllocError> {
     Ok(Given::of(edited(alloc, &edits)?))
 }
 
-const GRID_TOLD: &str = "<<<<< Study finished: complete
+const MANY_TOLD: &str = "<<<<< Study finished: complete
 <<<<< Function evaluation summary: 10201 total (10201 new, 0 duplicate)
 ";
 
-/// A grid of 101 values for each of two variables.
+const MOST_TOLD: &str = "<<<<< Study finished: complete
+<<<<< Function evaluation summary: 99856 total (99856 new, 0 duplicate)
+";
+
+/// Grids of 101 and of 316 values for each of two variables.
 #[test]
-fn a_study_of_many_rows_is_evaluated(rt: HostRuntime) -> Result<(), Fail> {
+fn studies_of_many_rows_are_evaluated(rt: HostRuntime) -> Result<(), Fail> {
     let alloc = rt.alloc();
-    let source = grid(alloc, "multidim_parameter_study partitions = 100 100")?;
-    let left = run(alloc, &["-i", "grid.in"], source, 1_000_000)?;
-    assert_eq!(rt; left.status, Status::Finished);
-    assert_eq!(rt; left.out.taken(), GRID_TOLD.as_bytes());
-    assert_eq!(rt; left.table.taken().len(), 316_778);
-    assert!(rt; left.table.taken().ends_with(b"\n10201 NO_ID 2 2 401\n"));
+    let cases = [
+        ("100 100", MANY_TOLD, "\n10201 NO_ID 2 2 401\n"),
+        ("315 315", MOST_TOLD, "\n99856 NO_ID 2 2 401\n"),
+    ];
+    for (parts, told, last) in cases {
+        let method = format!(in alloc; "multidim_parameter_study partitions = {parts}")?;
+        let source = grid(alloc, method.as_str())?;
+        let left = run(alloc, &["-i", "grid.in"], source, 100_000_000)?;
+        assert_eq!(rt; left.status, Status::Finished);
+        assert_eq!(rt; left.out.taken(), told.as_bytes());
+        assert!(rt; left.table.taken().ends_with(last.as_bytes()));
+    }
     Ok(())
 }
 
