@@ -61,6 +61,7 @@ def main():
         peak = peak_of(command, folders[name])
         memory = "peak memory not measured, since there is no " + TIME if peak is None else f"peak memory {peak} KiB"
         print(f"{name}: median of {runs} runs {medians[name] * 1000:.1f} ms, least {min(times[name]) * 1000:.1f} ms, {memory}")
+    print(f"program: {medians['program'] / rows * 1e6:.2f} microseconds a row")
     print(f"Python / program: {medians['Python'] / medians['program']:.2f}")
     if "C" in medians:
         print(f"program / C: {medians['program'] / medians['C']:.2f}")

@@ -1,5 +1,5 @@
 #!/bin/sh
-# Compares the proved program with Python and C on three studies that it runs, and with Python on one that it reads: run.sh
+# Compares the proved program with Python and C on four studies that it runs, and with Python on one that it reads: run.sh
 # [RUNS]. README.md beside it says more.
 here=$(CDPATH='' cd -P -- "$(dirname -- "$0")" && pwd) || exit 1
 runs=${1:-11}
@@ -22,7 +22,7 @@ if command -v gcc >/dev/null 2>&1; then
 else
     echo "bench: gcc isn't on this machine, so the study in C is left out" >&2
 fi
-for study in study.in recover.in grid.in; do
+for study in study.in recover.in grid.in long.in; do
     python3 "$here/measure.py" "$runs" "$scratch" "$here/$study" "$here/../crates/dakota/out/dakota" "$here/study.py" \
         ${compiled:+"$compiled"} || exit 1
 done
