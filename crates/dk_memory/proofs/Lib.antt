@@ -1,2 +1,4 @@
 pub mod Replays
 pub mod Imaging
+pub mod Looks
+pub mod Benching

@@ -2,9 +2,12 @@
 //! says.
 #![tactic(auto)]
 
+pub mod bench;
 mod calls;
+pub mod child;
 pub mod disk;
 mod event;
+mod files;
 pub mod image;
 mod kept;
 mod overwrite;
@@ -13,6 +16,8 @@ pub mod source;
 #[cfg(test)]
 mod tests;
 
+pub use bench::MemBench;
+pub use child::{Child, Left};
 pub use disk::MemDisk;
 pub use image::Image;
 pub use sink::MemSink;

@@ -1,5 +1,5 @@
 // A sink in memory.
-ghost use Rattle.std.specs.Prelude.{◌≡◌, ◌⊎◌, ◌<◌, ◌≤◌, [], length, option_map, IfOk, Some, None};
+ghost use Rattle.std.specs.Prelude.{◌≡◌, ◌⊎◌, ◌+◌, ◌<◌, ◌≤◌, [], length, min, option_map, IfOk, MatchResult, Some, None};
 ghost use Rattle.dk_outside.specs.Causes.{HasCause};
 ghost use Rattle.dk_outside.specs.Sinks.{Begins, Takes};
 ghost use Rattle.dk_memory.specs.Calls.{fresh, IsDue, IsCountedGrowth};
@@ -9,8 +9,9 @@ use dk_outside::{Failed, Sink, Text};
 use std::alloc::{AllocError, Global};
 use std::marker::Model;
 
-/// A sink in memory. It takes a number of bytes in all, whatever is begun, and then fails. It also fails at the calls
-/// of the given numbers, counted from 1, and where it finds no memory.
+/// A sink in memory. It takes a number of bytes in all, whatever is begun, and of each piece as many as there is room for;
+/// where there is none it fails. It also fails at the calls of the given numbers, counted from 1, and where it finds no
+/// memory.
 #[derive(Drop)]
 pub struct MemSink {
     alloc: Global,
@@ -74,6 +75,7 @@ impl Sink for MemSink {
     fn begin(&mut self, name: &str) -> Result<(), Failed>
         ensures begins { Begins (Some self.old.held) (Some self.new.held) result name.now }
         ensures cause { HasCause self.old.calls.faults self.new.calls.faults result }
+        ensures room { self.new.room ≡ self.old.room }
         ensures counted { IsCountedGrowth self.old.calls self.new.calls (IsDue self.old.calls self.new.calls.made) result }
     {
         if self.calls.is_due() {
@@ -95,6 +97,8 @@ impl Sink for MemSink {
         ensures some { IfOk result (λ n. 0 < n) }
         ensures bytes { Takes (Some self.old.held) (Some self.new.held) result piece.now }
         ensures cause { HasCause self.old.calls.faults self.new.calls.faults result }
+        ensures takes_all { IfOk result (λ n. n ≡ min (length piece.now) self.old.room) }
+        ensures room { MatchResult result (λ n. self.new.room + n ≡ self.old.room) (λ failed. self.new.room ≡ self.old.room) }
         ensures counted { IsCountedGrowth self.old.calls self.new.calls (IsDue self.old.calls self.new.calls.made ⊎ (self.old.room ≡ 0)) result }
     {
         if self.calls.is_due() || self.room == 0 {

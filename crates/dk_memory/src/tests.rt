@@ -1,4 +1,6 @@
 //! Objects in memory, whose calls fail as they are told.
+mod benches;
+
 use crate::{Image, MemDisk, MemSink, MemSource};
 use dk_outside::{Disk, Failed, Sink, Source};
 use std::test::Fail;

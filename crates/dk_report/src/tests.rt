@@ -5,13 +5,14 @@ ghost use Rattle.std.specs.Prelude.{IsTrue};
 mod memory;
 
 use crate::{best, write_summary, write_table};
+use dk_memory::MemSink;
 use dk_num::{Dec, unit_of};
 use dk_outside::Failed;
 use dk_types::{
     Decs, Driver, Ending, FailRule, Interface, Labels, Method, ParamForm, Responses, Row, Study,
     Text, Units, Variables, Way, Why,
 };
-use memory::{Listed, Page};
+use memory::Listed;
 use std::alloc::{AllocError, Global};
 use std::process::Abort;
 use std::test::Fail;
@@ -109,8 +110,8 @@ fn have_widths(study: &Study, rows: &[Row]) -> bool
 /// What the two writers leave in their sinks, and the best row's number.
 #[derive(Drop)]
 struct Told {
-    table: Page,
-    summary: Page,
+    table: MemSink,
+    summary: MemSink,
     best: Option<u32>,
 }
 
@@ -125,8 +126,8 @@ fn write_both(
     assert!(rt; rows.len() < 100);
     assert!(rt; have_widths(study, &rows));
     let rows = Listed::of(rows);
-    let mut table = Page::new(alloc, 1000);
-    let mut summary = Page::new(alloc, 1000);
+    let mut table = MemSink::sink(alloc, 1000, &[])?;
+    let mut summary = MemSink::sink(alloc, 1000, &[])?;
     assert_eq!(rt; write_table(study, &rows, &mut table), Ok(()));
     assert_eq!(rt; write_summary(study, &rows, ending, &mut summary), Ok(()));
     Ok(Told {
@@ -204,10 +205,10 @@ fn rows_are_told(rt: HostRuntime) -> Result<(), Fail> {
     let study = study(alloc, &["obj_fn"], true, Some("t.dat"))?;
     for (lines, ending, table, summary, best) in cases {
         let told = write_both(&rt, alloc, &study, lines, &ending)?;
-        assert_eq!(rt; told.table.name(), Some("t.dat"));
+        assert_eq!(rt; told.table.begun(), Some("t.dat"));
         assert_eq!(rt; told.table.taken(), table.as_bytes());
         assert_eq!(rt; told.summary.taken(), summary.as_bytes());
-        assert_eq!(rt; told.summary.name(), None);
+        assert_eq!(rt; told.summary.begun(), None);
         assert_eq!(rt; told.best, best);
     }
     Ok(())
@@ -235,7 +236,7 @@ fn other_studies_have_no_best_row_or_no_table(rt: HostRuntime) -> Result<(), Fai
         let lines: [Numbers; 1] = [(&["0", "-1e3"], &["1", "2"])];
         let ending = Ending::Finished(Why::Evaluations);
         let told = write_both(&rt, alloc, &study, &lines, &ending)?;
-        assert_eq!(rt; told.table.name(), name);
+        assert_eq!(rt; told.table.begun(), name);
         assert_eq!(rt; told.table.taken(), table.as_bytes());
         assert_eq!(rt; told.summary.taken(), TWO_TOLD.as_bytes());
         assert_eq!(rt; told.best, None);
@@ -249,9 +250,9 @@ fn a_full_sink_keeps_a_front(rt: HostRuntime) -> Result<(), Fail> {
     let alloc = rt.alloc();
     let study = study(alloc, &["obj_fn"], true, Some("t.dat"))?;
     let rows = Listed::of(Vec::new(alloc));
-    let mut table = Page::new(alloc, 10);
+    let mut table = MemSink::sink(alloc, 10, &[])?;
     assert_eq!(rt; write_table(&study, &rows, &mut table), Err(Failed));
-    assert_eq!(rt; table.name(), Some("t.dat"));
+    assert_eq!(rt; table.begun(), Some("t.dat"));
     assert_eq!(rt; table.taken(), "%eval_id i".as_bytes());
     Ok(())
 }

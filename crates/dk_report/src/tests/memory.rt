@@ -1,11 +1,9 @@
-// Rows and a sink in memory, whose contents contracts see.
+// Rows in memory, which contracts see.
 ghost use Rattle.std.specs.Prelude.{◌≡◌, ◌<◌, ◌^◌, position, vec_len};
 ghost use Rattle.dk_types.specs.Best.{same_point};
 
 use dk_num::Dec;
-use dk_outside::{Failed, Sink, Text};
 use dk_types::{Row, Rows};
-use std::alloc::Global;
 use std::marker::Model;
 
 /// Rows in order, fewer than 2^32.
@@ -69,68 +67,4 @@ fn is_same_point(point: &[Dec], other: &[Dec]) -> bool
     ensures { result ≡ same_point point.now other.now }
 {
     point == other
-}
-
-/// A sink with so much room.
-#[derive(Drop)]
-pub struct Page {
-    alloc: Global,
-    name: Option<Text>,
-    taken: Vec<u8>,
-    room: usize,
-    faults: u64,
-}
-
-impl Page {
-    pub fn new(alloc: Global, room: usize) -> Page {
-        Page {
-            alloc,
-            name: None,
-            taken: Vec::new(alloc),
-            room,
-            faults: 0,
-        }
-    }
-
-    /// The name begun; none where none was.
-    pub fn name(&self) -> Option<&str> {
-        self.name.as_ref().map(|name| name.as_str())
-    }
-
-    pub fn taken(&self) -> &[u8] {
-        &self.taken
-    }
-}
-
-impl Sink for Page {
-    ghost use Rattle.std.specs.Prelude.{Some};
-
-    ghost held = { λ page. Some (record { begun = page.name; taken = page.taken.items }) };
-
-    ghost faults = { λ page. page.faults };
-
-    fn begin(&mut self, name: &str) -> Result<(), Failed> {
-        match Text::of(self.alloc, name) {
-            Ok(name) => {
-                self.name = Some(name);
-                self.taken.clear();
-                Ok(())
-            }
-            Err(_) => {
-                self.faults = self.faults.saturating_add(1);
-                Err(Failed)
-            }
-        }
-    }
-
-    fn write(&mut self, piece: &[u8]) -> Result<usize, Failed> {
-        let count = piece.len().min(self.room);
-        if count > 0 && self.taken.extend_from_slice(&piece[..count]).is_ok() {
-            self.room -= count;
-            Ok(count)
-        } else {
-            self.faults = self.faults.saturating_add(1);
-            Err(Failed)
-        }
-    }
 }
