@@ -117,6 +117,7 @@ pub opens_found : (mode : Mode) (shape : Shape) (limit cards : ℕ) (old mid : O
 opens_found mode shape limit cards old mid bytes journal book read found shape_is limit_is whole = record {
   entries = found.entries;
   stood = told_bytes (λ b. CanOpen mode shape limit b found.entries) old bytes read.are (record { fits = read.fits; fresh = read.fresh; stands = found.stands });
+  fresh = λ is. stands_same shape [] found.entries [] (subst (λ b. Stands shape b found.entries) (read.fresh is) found.stands) (unborn tt);
   holds = record {
     whole = whole;
     rests = subst (λ s. IfSome journal.told (λ course. IsAtRest s journal.end found.entries course.now)) (sym shape_is) found.rests;

@@ -50,11 +50,13 @@ pub record OpensOver (shape : Shape) (old new : Course) : Type 0 where
 abbrev pub OpensOverTold : Shape → (old new : Option Course) → Type 0
 OpensOverTold shape old new = MatchOption old (new ≡ None) (λ course. (now : Course) × (new ≡ Some now) × OpensOver shape course now)
 
--- A file was opened over the entries for which it stood: the journal holds them, and the book stands for them. It has
--- the widths of the labels, and room for so many cards more, each of them with values.
+-- A file was opened over the entries for which it stood, which are none in a fresh one, whether its disk tells or not: the
+-- journal holds them, and the book stands for them. It has the widths of the labels, and room for so many cards more, each of
+-- them with values.
 pub record Opens (mode : Mode) (shape : Shape) (limit cards : ℕ) (old : Option Course) (journal : JournalState) (book : BookState) : Type 0 where
   pub entries : List Entry
   pub stood : IfSome old (λ course. CanOpen mode shape limit course.now.bytes entries)
+  pub fresh : mode ≡ Fresh → entries ≡ []
   pub holds : Holds journal entries
   pub stands_for : StandsFor book entries
   pub shape_is : journal.shape ≡ shape

@@ -69,8 +69,8 @@ impl<K: Disk> Journal<K> {
     /// stands behind the first byte, the header has other labels, or its records can't be read to an end gate. `Disk`
     /// comes only where the disk failed in this call. Where the fault is another than `Disk` nothing was written.
     ///
-    /// On `Ok` the file stands for the entries of the book, which has the widths of the labels, and room for `cards`
-    /// cards more, each of them with values. A file that has at most one byte or begins with a zero byte had no entries,
+    /// On `Ok` the file stands for the entries of the book, none in mode `Fresh`. The book has the widths of the labels, and
+    /// room for `cards` cards more, each of them with values. A file that has at most one byte or begins with a zero byte had no entries,
     /// and was begun. In any other file nothing is written.
     ///
     /// Whatever the answer, a crash at any moment leaves the entries that the file stood for.

@@ -1,7 +1,8 @@
-use Rattle.std.proofs.Common.{◌≡◌, ◌+◌, ◌*◌, ◌≤◌, List, ℕ, length, sym, subst}
+use Rattle.std.proofs.Common.{◌≡◌, ◌+◌, ◌*◌, ◌≤◌, List, ℕ, length, true, refl, sym, subst}
 use Rattle.dk_types.specs.declared.study.Shape.{Shape}
+use Rattle.dk_journal.specs.Journals.{JournalState}
 use Rattle.dk_journal.specs.Judging.{IsRead}
-use Rattle.dk_journal.proofs.Opens.{over_untouched, over_judged, refused_missed}
+use Rattle.dk_journal.proofs.Opens.{over_untouched, over_judged, refused_missed, opens_found}
 use Rattle.dk_journal.proofs.opening.open_file.Goals as goal
 
 pub returns-in-Err-clause-refused : goal.returns-in-Err-clause-refused
@@ -45,3 +46,20 @@ returns-in-Ok-judge-clause-fits g c =
       end_below = found.fits c.args.limit (subst (λ (bs : List ℕ). length bs ≤ c.args.limit) (sym c.deref.ensures.value) c.in-Ok.ensures.read.fits) c.requires.limit_from;
       few = found.few;
     }
+
+pub returns-in-Ok-judge-clause-opened : goal.returns-in-Ok-judge-clause-opened
+returns-in-Ok-judge-clause-opened g c =
+    let read : IsRead c.args.mode c.args.limit (g.K.Disk.told c.args.disk.now) (g.K.Disk.told c.read_in.new.disk) c.deref.result.now =
+    subst (IsRead c.args.mode c.args.limit (g.K.Disk.told c.args.disk.now) (g.K.Disk.told c.read_in.new.disk)) (sym c.deref.ensures.value) c.in-Ok.ensures.read in
+    let found = c.in-Ok-judge.found in
+    let journal : JournalState = record {
+      told = g.K.Disk.told c.judge.new.disk;
+      faults = g.K.Disk.faults c.judge.new.disk;
+      shape = c.in-Ok-take_parts.parts.shape;
+      end = found.end;
+      entries = found.count;
+      limit = c.args.limit;
+      whole = true;
+    } in
+    opens_found c.args.mode c.args.shape.now c.args.limit c.args.cards (g.K.Disk.told c.args.disk.now) (g.K.Disk.told c.read_in.new.disk) c.deref.result.now journal found.book read c.in-Ok-judge.ensures.found
+    c.in-Ok-take_parts.ensures.shape refl refl
