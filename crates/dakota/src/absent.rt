@@ -1,64 +1,10 @@
-// What isn't built yet: the restart file, and the places where children run.
+// What isn't built yet: the places where children run.
 ghost use Rattle.std.specs.Prelude.{◌≡◌, length, IfOk, IsErr};
-ghost use Rattle.std.specs.Io.{ReadsAtMost};
 ghost use Rattle.dk_outside.specs.Benches.{IsAtMost};
 ghost use Rattle.dk_outside.specs.Causes.{HasCause};
 
-use dk_outside::{Bench, Call, Disk, Failed, Fetched};
+use dk_outside::{Bench, Call, Failed, Fetched};
 use dk_real::fault;
-
-/// No disk: each call fails.
-#[derive(Drop)]
-pub struct NoDisk {
-    faults: u64,
-}
-
-impl NoDisk {
-    pub fn new() -> NoDisk
-        ensures { result.faults ≡ 0 }
-    {
-        NoDisk { faults: 0 }
-    }
-}
-
-impl Disk for NoDisk {
-    ghost use Rattle.std.specs.Prelude.{None};
-
-    ghost told = { λ _. None };
-
-    ghost faults = { λ disk. disk.faults };
-
-    ghost shows = { λ _. tt };
-
-    fn length(&mut self) -> Result<u64, Failed>
-        ensures fails { IsErr result }
-        ensures cause { HasCause self.old.faults self.new.faults result }
-    {
-        Err(fault(&mut self.faults))
-    }
-
-    fn read_at(&mut self, _at: u64, buf: &mut [u8]) -> Result<usize, Failed>
-        ensures fails { IsErr result }
-        ensures bound { ReadsAtMost result buf.new }
-        ensures cause { HasCause self.old.faults self.new.faults result }
-    {
-        Err(fault(&mut self.faults))
-    }
-
-    fn write_at(&mut self, _at: u64, _bytes: &[u8]) -> Result<(), Failed>
-        ensures fails { IsErr result }
-        ensures cause { HasCause self.old.faults self.new.faults result }
-    {
-        Err(fault(&mut self.faults))
-    }
-
-    fn sync(&mut self) -> Result<(), Failed>
-        ensures fails { IsErr result }
-        ensures cause { HasCause self.old.faults self.new.faults result }
-    {
-        Err(fault(&mut self.faults))
-    }
-}
 
 /// No bench: each call fails.
 #[derive(Drop)]

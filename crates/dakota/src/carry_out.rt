@@ -6,12 +6,13 @@ ghost use Rattle.dk_runner.specs.Headline.{Says, OnlyGrows};
 ghost use Rattle.dk_runner.specs.Lines.{line};
 ghost use Rattle.dk_runner.specs.declared.status.Status.TheVariants.{Finished, NoMemory, SinkFault};
 
-use crate::absent::{NoBench, NoDisk};
-use dk_outside::Sink;
+use crate::absent::NoBench;
 use dk_outside::sink::write_all;
-use dk_real::{FileSink, FileSource};
+use dk_outside::{Mode, Sink};
+use dk_real::{FileDisk, FileSink, FileSource};
 use dk_runner::{Command, CommandFault, Status, Which, check, command, dakota, usage, write_line};
 use std::alloc::{AllocError, Global};
+use std::fs::File;
 use std::rt::Files;
 
 /// How many children may run at once.
@@ -19,14 +20,22 @@ const BENCHES: usize = 64;
 
 pub const HELP: &str = "dakota: runs a study of a simulation, or checks one
 
-  dakota -i FILE          run the study in FILE (-input FILE is the same)
-  dakota -check -i FILE   read and check the study, and run nothing
-  dakota --help           print this
-  dakota --version        print the version
+  dakota -i FILE            run the study in FILE (-input FILE is the same)
+  dakota -i FILE -w RESTART begin the restart file RESTART in place of dakota.rst
+                            (-write_restart RESTART is the same)
+  dakota -i FILE -r RESTART go on with the restart file RESTART
+                            (-read_restart RESTART is the same)
+  dakota -check -i FILE     read and check the study, and run nothing
+  dakota --help             print this
+  dakota --version          print the version
 
-A run writes the study's table under the name that the study gives, and its summary here. For example:
+A run writes the study's table under the name that the study gives, and its summary here.
+Each evaluation is recorded in the restart file, and synced, before it counts. A run that was
+stopped is gone on with so, and no evaluation that the file holds is made again:
 
-  dakota -check -i examples/grid.in
+  dakota -i FILE -r dakota.rst
+
+Without -r an older restart file is kept as RESTART.old, RESTART.old2 and so on.
 
 docs/MANUAL.md in Dirhaulk's repository says how a study is written, keyword by keyword,
 and what the exit statuses are.
@@ -36,15 +45,22 @@ pub const VERSION: &str = "dakota, Dirhaulk 0.1.0\n";
 
 /// Carries out the words behind the program's name: runs or checks the study in a file, prints a text that is asked
 /// for, or says where the words are wrong. Answers how that ended.
-pub fn carry_out<R: Files + AllocGlobal, U: Sink>(rt: &R, words: &[String], out: &mut U) -> Status {
+pub fn carry_out<R: Files<File = File> + AllocGlobal, U: Sink>(
+    rt: &R,
+    words: &[String],
+    out: &mut U,
+) -> Status {
     if let Some(text) = text_asked_for(words) {
         return print_text(text, out);
     }
     match command(rt.alloc(), words) {
-        Ok(Command::Run { input, .. }) => match restart_option(words) {
-            Some(at) => usage(at, out),
-            None => run_file(rt, words, input.as_str(), out),
-        },
+        Ok(
+            Command::Run {
+                input,
+                restart,
+                mode,
+            },
+        ) => run_file(rt, words, input.as_str(), restart.as_str(), mode, out),
         Ok(Command::Check { input }) => {
             let mut study = FileSource::new(rt, input.as_str());
             check(rt.alloc(), words, &mut study, out)
@@ -76,18 +92,6 @@ fn text_asked_for(words: &[String]) -> Option<&'static str> {
     }
 }
 
-/// The place of an option that names a restart file, which a run doesn't have so far. A FILE doesn't begin with `-`.
-fn restart_option(words: &[String]) -> Option<u32> {
-    let before = words
-        .iter()
-        .position(|word| is_restart_option(word.as_str()))?;
-    u32::try_from(before).ok()?.checked_add(1)
-}
-
-fn is_restart_option(word: &str) -> bool {
-    matches!(word, "-r" | "-read_restart" | "-w" | "-write_restart")
-}
-
 /// Prints a text that was asked for.
 fn print_text<U: Sink>(text: &str, out: &mut U) -> Status
     ensures prints { result ≡ Finished → Grows (U.held out.old) (U.held out.new) text.now }
@@ -101,11 +105,13 @@ fn print_text<U: Sink>(text: &str, out: &mut U) -> Status
     }
 }
 
-/// Runs the study in a file, whose place the table can't take.
-fn run_file<R: Files + AllocGlobal, U: Sink>(
+/// Runs the study in a file over a restart file. The table can take neither's place.
+fn run_file<R: Files<File = File> + AllocGlobal, U: Sink>(
     rt: &R,
     words: &[String],
     path: &str,
+    restart: &str,
+    mode: Mode,
     out: &mut U,
 ) -> Status
     ensures out_fault { result ≡ SinkFault Which.Out → Rose (U.faults out.old) (U.faults out.new) }
@@ -115,13 +121,12 @@ fn run_file<R: Files + AllocGlobal, U: Sink>(
         return end_without_memory(out);
     };
     let mut study = FileSource::new(rt, path);
-    // No restart file is opened yet, so the study's place is the only one that is taken.
-    let mut table = FileSink::new(rt, path, path);
+    let mut table = FileSink::new(rt, path, restart);
     let ended = dakota(
         rt.alloc(),
         words,
         &mut study,
-        NoDisk::new(),
+        FileDisk::new(rt, restart, mode, path),
         &mut table,
         out,
         benches,

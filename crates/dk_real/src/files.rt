@@ -2,7 +2,7 @@
 ghost use Rattle.std.specs.Prelude.{◌≡◌};
 
 use crate::faults::{fault, read_from, write_to};
-use crate::opening::is_same_file;
+use crate::opening::{is_older_file, is_same_file};
 use dk_outside::{Failed, Sink, Source};
 use std::fs;
 use std::rt::Files;
@@ -45,10 +45,10 @@ impl<R: Files> Source for FileSource<'_, R> {
     }
 }
 
-/// A file that `begin` makes or empties, at a path from the current folder on. It isn't begun in the place of the study or
-/// of its restart file.
+/// A file that `begin` makes or empties, at a path from the current folder on. It isn't begun in the place of the study, of
+/// its restart file, or of an older one that was kept as NAME.old, NAME.old2 and so on.
 #[derive(Drop)]
-pub struct FileSink<'a, R: Files> {
+pub struct FileSink<'a, R: Files + AllocGlobal> {
     files: &'a R,
     study: &'a str,
     restart: &'a str,
@@ -56,7 +56,7 @@ pub struct FileSink<'a, R: Files> {
     faults: u64,
 }
 
-impl<'a, R: Files> FileSink<'a, R> {
+impl<'a, R: Files + AllocGlobal> FileSink<'a, R> {
     /// A sink that isn't begun, for the table of the study and the restart file at these paths.
     pub fn new(files: &'a R, study: &'a str, restart: &'a str) -> FileSink<'a, R>
         ensures faults { result.faults ≡ 0 }
@@ -73,7 +73,7 @@ impl<'a, R: Files> FileSink<'a, R> {
     }
 }
 
-impl<R: Files> Sink for FileSink<'_, R> {
+impl<R: Files + AllocGlobal> Sink for FileSink<'_, R> {
     ghost use Rattle.std.specs.Prelude.{None};
 
     ghost held = { λ _. None };
@@ -83,6 +83,7 @@ impl<R: Files> Sink for FileSink<'_, R> {
     fn begin(&mut self, name: &str) -> Result<(), Failed> {
         if is_same_file(self.files, self.study, name)
             || is_same_file(self.files, self.restart, name)
+            || is_older_file(self.files, self.restart, name)
         {
             return Err(fault(&mut self.faults));
         }

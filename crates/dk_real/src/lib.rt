@@ -1,7 +1,8 @@
-//! The adapters over the system: a file as a source, as a sink and as a disk, and standard output as a sink. Each counts
-//! its calls that failed. None tells what it holds.
+//! The adapters over the system: a file as a source, as a sink and as a disk, standard output as a sink, and the current folder
+//! as a bench. Each counts its calls that failed. None tells what it holds.
 #![tactic(auto)]
 
+mod child_bench;
 mod disk;
 mod faults;
 mod files;
@@ -10,6 +11,7 @@ mod terminal;
 #[cfg(test)]
 mod tests;
 
+pub use child_bench::ChildBench;
 pub use disk::FileDisk;
 pub use faults::fault;
 pub use files::{FileSink, FileSource};

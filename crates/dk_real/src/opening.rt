@@ -87,6 +87,22 @@ pub fn is_same_file<R: Files>(files: &R, one: &str, other: &str) -> bool {
     }
 }
 
+/// Whether a path leads to one of the older restart files, up to the first of their names at which nothing stands; also
+/// where memory for a name is wanting.
+pub fn is_older_file<R: Files + AllocGlobal>(rt: &R, restart: &str, path: &str) -> bool {
+    for number in 1..u64::MAX {
+        let Ok(name) = older_name(rt.alloc(), restart, number) else {
+            return true;
+        };
+        match fs::metadata(rt, name.as_str()) {
+            Ok(found) if is_at(rt, path, &found) => return true,
+            Ok(_) => {}
+            Err(_) => return false,
+        }
+    }
+    false
+}
+
 /// The first of the older names at which nothing stands.
 fn free_name<R: Files + AllocGlobal>(rt: &R, path: &str) -> io::Result<String> {
     for number in 1..u64::MAX {

@@ -1,4 +1,6 @@
-//! The adapters over real files and standard output.
+//! The adapters over real files, programs and standard output.
+mod children;
+
 use crate::{FileDisk, FileSink, FileSource, OutSink};
 use dk_outside::sink::write_all;
 use dk_outside::source::read_text;
@@ -13,18 +15,36 @@ const STUDY: &str = "s.in";
 
 const RESTART: &str = "s.rst";
 
-/// A table is the file begun last, and never the study or its restart file, by whatever path.
+/// Takes away what an earlier run in this folder may have left.
+fn begin_anew(rt: &HostRuntime) {
+    for name in [RESTART, "s.rst.old", "s.rst.old2", "hard.in", "soft.in"] {
+        let _ = fs::remove_file(rt, name);
+    }
+}
+
+/// A table is the file begun last, and never the study, its restart file or an older one, by whatever path.
 #[test]
 fn a_table_is_the_file_begun_last(rt: HostRuntime) -> Result<(), Fail> {
+    begin_anew(&rt);
     fs::write(&rt, STUDY, "study")?;
-    fs::write(&rt, RESTART, "restart")?;
+    for name in [RESTART, "s.rst.old", "s.rst.old2"] {
+        fs::write(&rt, name, "restart")?;
+    }
     let mut sink = FileSink::new(&rt, STUDY, RESTART);
     assert!(rt; sink.write(b"too early").is_err());
     for text in ["a longer first one\n", "1 NO_ID\n"] {
         assert!(rt; sink.begin(NAME).is_ok());
         assert!(rt; write_all(&mut sink, text.as_bytes()).is_ok());
     }
-    for name in [STUDY, "./s.in", RESTART, "./s.rst", "none/t.dat"] {
+    for name in [
+        STUDY,
+        "./s.in",
+        RESTART,
+        "./s.rst",
+        "s.rst.old",
+        "./s.rst.old2",
+        "none/t.dat",
+    ] {
         assert!(rt; sink.begin(name).is_err());
     }
     assert!(rt; write_all(&mut sink, b"2 NO_ID\n").is_ok());
@@ -32,6 +52,7 @@ fn a_table_is_the_file_begun_last(rt: HostRuntime) -> Result<(), Fail> {
         (NAME, "1 NO_ID\n2 NO_ID\n"),
         (STUDY, "study"),
         (RESTART, "restart"),
+        ("s.rst.old2", "restart"),
     ] {
         let text = read_text(rt.alloc(), &mut FileSource::new(&rt, name))?;
         assert_eq!(rt; text.as_slice(), whole.as_bytes());
@@ -57,6 +78,7 @@ fn has(rt: &HostRuntime, path: &str, text: &str) -> bool {
 /// A restart file is written and read back, and a fresh one leaves the older ones under other names.
 #[test]
 fn a_restart_file_is_begun_and_gone_on_with(rt: HostRuntime) -> Result<(), Fail> {
+    begin_anew(&rt);
     fs::write(&rt, STUDY, "study")?;
     let mut buf = [0u8; 4];
     let mut absent = FileDisk::new(&rt, RESTART, Mode::Resume, STUDY);
@@ -95,10 +117,8 @@ fn a_restart_file_is_begun_and_gone_on_with(rt: HostRuntime) -> Result<(), Fail>
 /// A study is no restart file, by whatever path, and neither is a folder.
 #[test]
 fn a_study_is_no_restart_file(rt: HostRuntime) -> Result<(), Fail> {
+    begin_anew(&rt);
     fs::write(&rt, STUDY, "study")?;
-    for link in ["hard.in", "soft.in"] {
-        let _ = fs::remove_file(&rt, link);
-    }
     fs::hard_link(&rt, STUDY, "hard.in")?;
     rt.symlink(STUDY, "soft.in")?;
     for path in [STUDY, "./s.in", "hard.in", "soft.in", ".", "none/s.rst"] {

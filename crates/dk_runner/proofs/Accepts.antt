@@ -1,9 +1,16 @@
 -- A text gives just one study, or is refused for just one fault.
-use Rattle.std.proofs.Common.{◌≡◌, ◌⊎◌, inl, inr, ℕ, ◌<◌, ◌≤◌, Bool, true, false, List, length, Option, Some, None, refl, ap, sym, ◌∙◌, arith, nat_le}
+use Rattle.std.proofs.Common.{◌≡◌, ◌⊎◌, inl, inr, ℕ, ◌<◌, ◌≤◌, Bool, true, false, List, length, Option, Some, None, [], refl, ap, sym, subst, ◌∙◌, arith, nat_le}
 use Rattle.std.specs.Prelude.{IfSome, Result, Ok, Err}
 use Rattle.std.proofs.lemmas.Grind.{common_steps}
 use Rattle.dk_lex.proofs.Uniqueness.{each_text_lexes}
 use Rattle.dk_types.specs.declared.study.Study.{Study}
+use Rattle.dk_types.specs.Sound.{IsSound}
+use Rattle.dk_grammar.specs.Grammar.{tree_of}
+use Rattle.dk_reader.specs.declared.document.Document.{Document}
+use Rattle.dk_reader.specs.Steps.{study_faults}
+use Rattle.dk_reader.specs.Study.{study_of}
+use Rattle.dk_reader.proofs.TableEntries.{text_named}
+use Rattle.dk_reader.proofs.Sound.{study_is_sound}
 use Rattle.dk_reader.specs.declared.fault.StudyFault.{StudyFault}
 use Rattle.dk_reader.specs.declared.fault.StudyKind.TheVariants.{TooLong, Unsupported}
 use Rattle.dk_reader.specs.Reading.{Reads, HasFault, Says, EachTextSays}
@@ -101,3 +108,10 @@ without_table (Some text) study accepts leaves = λ other reads none.
 pub untouched_table : {untouched : Type 0} (left : Option (List ℕ)) → untouched → IfSome left (λ text. WithoutTable text untouched)
 untouched_table None is = tt
 untouched_table (Some text) is = λ study reads none. is
+
+-- a study that a text says is sound
+pub reads_sound : (text : List ℕ) (study : Study) → Reads text study → IsSound study
+reads_sound text study reads =
+    let tree = tree_of text reads.has.tokens in
+    subst IsSound (sym (reads.study_is ∙ ap study_of reads.has.says))
+    (study_is_sound text tree (text_named text reads.has.tokens) (subst (λ (d : Document). study_faults d ≡ []) reads.has.says reads.faultless))

@@ -1,10 +1,12 @@
+pub mod Texts
 pub mod Accepts
-pub mod Complete
-pub mod Evaluations
+pub mod Sessions
+pub mod Opened
+pub mod Room
+pub mod Clauses
 pub mod Reported
 pub mod Saying
 pub mod Told
 pub mod CheckTold
-pub mod Pooled
-pub mod Settling
-pub mod SoFar
+pub mod Over
+pub mod Headers

@@ -1,74 +1,86 @@
--- A run whose study was decided ends as its texts were written.
-use Rattle.std.proofs.Common.{List, []}
+-- A run of an accepted study ends as it went over its restart file.
+use Rattle.std.proofs.Common.{◌≡◌, inl, inr, None}
 use Rattle.std.specs.Prelude.{IfSome}
 use Rattle.dk_types.specs.declared.study.Study.{Study}
-use Rattle.dk_types.specs.declared.study.Ending.{Ending}
-use Rattle.dk_types.specs.declared.rows.Row.{Row}
-use Rattle.dk_types.specs.Solo.{Solo, rosenbrock_child}
 use Rattle.dk_words.specs.Words.{IsFor}
-use Rattle.dk_runner.specs.Accepted.{Accepts}
-use Rattle.dk_runner.specs.Endings.{Scene, EndsSo, Reports}
 use Rattle.dk_words.specs.declared.purpose.Purpose.TheVariants.{Run}
+use Rattle.dk_runner.specs.Accepted.{Accepts}
+use Rattle.dk_runner.specs.Causes.{IsCause}
+use Rattle.dk_runner.specs.Restarts.{Restart}
+use Rattle.dk_runner.specs.Endings.{Scene, EndsSo, EndsStudy, SaysLine}
 use Rattle.dk_runner.specs.declared.status.Status.{Status}
-use Rattle.dk_runner.specs.declared.status.Status.TheVariants.{Finished, Aborted, Usage, StudyRefused, SourceFault, SinkFault, NoMemory}
+use Rattle.dk_runner.specs.declared.status.Status.TheVariants.{Finished, Aborted, Usage, StudyRefused, SourceFault, RestartRefused, DiskFault, RestartFull, SinkFault, NoMemory}
 use Rattle.dk_runner.specs.declared.status.Which.TheVariants.{Table, Out}
-use Rattle.dk_runner.proofs.Complete.{told}
+use Rattle.dk_runner.proofs.Texts.{told}
 
--- the texts of a decided study, by the scene that they were written in
-abbrev ReportsIn : Scene → Study → List Row → Ending → Status → Type 0
-ReportsIn s study rows ending status = Reports study rows ending s.table_old s.table_new s.table_before s.table_now s.out_old s.out_new s.out_before s.out_now status
+pub ends_so : (s : Scene) (r : Restart) (untouched uncalled : Type 0) (study : Study) (status : Status) →
+    IsFor Run s.words × IfSome s.left (λ text. Accepts Run text study) → EndsStudy study s r untouched status → EndsSo s r untouched uncalled status
+ends_so s r untouched uncalled study Finished reason h = (
+  reason.0,
+  told s.left (λ text accepts. record {
+    study = study;
+    rows = h.0;
+    ending = h.1;
+    evaluates = record { accepts = accepts; is_decided = h.2 };
+    status_is = h.3.1.0;
+    in_table = h.3.0;
+    in_out = h.3.1.1;
+  }) reason.1,
+)
+ends_so s r untouched uncalled study Aborted reason h = (
+  reason.0,
+  told s.left (λ text accepts. record {
+    study = study;
+    rows = h.0;
+    ending = h.1;
+    evaluates = record { accepts = accepts; is_decided = h.2 };
+    status_is = h.3.1.0;
+    in_table = h.3.0;
+    in_out = h.3.1.1;
+  }) reason.1,
+)
+ends_so s r untouched uncalled study (SinkFault Table) reason h = (
+  reason.0,
+  h.3.0,
+  told s.left (λ text accepts. record {
+    study = study;
+    rows = h.0;
+    ending = h.1;
+    evaluates = record { accepts = accepts; is_decided = h.2 };
+    in_table = h.3.1;
+  }) reason.1,
+  h.3.2,
+)
+ends_so s r untouched uncalled study (SinkFault Out) reason h = (
+  reason.0,
+  h.3.1.0,
+  told s.left (λ text accepts. record {
+    study = study;
+    rows = h.0;
+    ending = h.1;
+    evaluates = record { accepts = accepts; is_decided = h.2 };
+    in_table = h.3.0;
+    in_out = h.3.1.1;
+  }) reason.1,
+)
+ends_so s r untouched uncalled study (RestartRefused fault) reason h = (reason.0, h.1, h.2, told s.left (λ text accepts. record { study = study; accepts = accepts; is = h.0 }) reason.1)
+ends_so s r untouched uncalled study DiskFault reason h = (reason.0, h.1, h.2, told s.left (λ text accepts. record { study = study; accepts = accepts; is = h.0 }) reason.1)
+ends_so s r untouched uncalled study (RestartFull size) reason h = (reason.0, h.1, h.2, told s.left (λ text accepts. record { study = study; accepts = accepts; is = h.0 }) reason.1)
+ends_so s r untouched uncalled study NoMemory reason h = inr (reason.0, h.1, h.2, told s.left (λ text accepts. record { study = study; accepts = accepts; is = h.0 }) reason.1)
+ends_so s r untouched uncalled study (Usage at) reason h = absurd h.3.1
+ends_so s r untouched uncalled study (StudyRefused fault) reason h = absurd h.3.1
+ends_so s r untouched uncalled study SourceFault reason h = absurd h.3.1
 
-pub ends_so : (s : Scene) (untouched : Type 0) (study : Study) (rows : List Row) (ending : Ending) (status : Status) →
-    IsFor Run s.words × IfSome s.left (λ text. Accepts Run text study) → Solo study rosenbrock_child [] rows ending → ReportsIn s study rows ending status → EndsSo s untouched status
-ends_so s untouched study rows ending Finished reason alone h = (
-  reason.0,
-  told s.left (λ text accepts. record {
-    study = study;
-    rows = rows;
-    ending = ending;
-    evaluates = record { accepts = accepts; alone = alone };
-    status_is = h.1.0;
-    in_table = h.0;
-    in_out = h.1.1;
-  }) reason.1,
-)
-ends_so s untouched study rows ending Aborted reason alone h = (
-  reason.0,
-  told s.left (λ text accepts. record {
-    study = study;
-    rows = rows;
-    ending = ending;
-    evaluates = record { accepts = accepts; alone = alone };
-    status_is = h.1.0;
-    in_table = h.0;
-    in_out = h.1.1;
-  }) reason.1,
-)
-ends_so s untouched study rows ending (SinkFault Table) reason alone h = (
-  reason.0,
-  h.0,
-  told s.left (λ text accepts. record {
-    study = study;
-    rows = rows;
-    ending = ending;
-    evaluates = record { accepts = accepts; alone = alone };
-    in_table = h.1;
-  }) reason.1,
-  h.2,
-)
-ends_so s untouched study rows ending (SinkFault Out) reason alone h = (
-  reason.0,
-  h.1.0,
-  told s.left (λ text accepts. record {
-    study = study;
-    rows = rows;
-    ending = ending;
-    evaluates = record { accepts = accepts; alone = alone };
-    in_table = h.0;
-    in_out = h.1.1;
-  }) reason.1,
-)
-ends_so s untouched study rows ending (Usage at) reason alone h = absurd h.1
-ends_so s untouched study rows ending (StudyRefused fault) reason alone h = absurd h.1
-ends_so s untouched study rows ending SourceFault reason alone h = absurd h.1
-ends_so s untouched study rows ending NoMemory reason alone h = absurd h.1
+-- no study was accepted
+pub ends_early : (s : Scene) (r : Restart) (untouched uncalled : Type 0) (status : Status) → IsCause Run s.words s.left s.source_before s.source_now status →
+    untouched → uncalled → r.book ≡ None → SaysLine s status → EndsSo s r untouched uncalled status
+ends_early s r untouched uncalled Finished cause table file book line = absurd cause
+ends_early s r untouched uncalled Aborted cause table file book line = absurd cause
+ends_early s r untouched uncalled (SinkFault which) cause table file book line = absurd cause
+ends_early s r untouched uncalled (RestartRefused fault) cause table file book line = absurd cause
+ends_early s r untouched uncalled DiskFault cause table file book line = absurd cause
+ends_early s r untouched uncalled (RestartFull size) cause table file book line = absurd cause
+ends_early s r untouched uncalled (Usage at) cause table file book line = ((cause, table, line), file, book)
+ends_early s r untouched uncalled (StudyRefused fault) cause table file book line = ((cause, table, line), file, book)
+ends_early s r untouched uncalled SourceFault cause table file book line = ((cause, table, line), file, book)
+ends_early s r untouched uncalled NoMemory cause table file book line = inl ((cause, table, line), file, book)

@@ -3,7 +3,11 @@ use Rattle.std.specs.Prelude.{ℕ, Bool, true, false, not, List, [], ◌++◌, c
 use Rattle.dk_types.specs.declared.study.Ending.{Ending}
 use Rattle.dk_types.specs.declared.study.Ending.TheVariants.{Finished as EndingFinished, Aborted as EndingAborted}
 use Rattle.dk_runner.specs.declared.status.Status.{Status}
-use Rattle.dk_runner.specs.declared.status.Status.TheVariants.{Finished, Aborted, Usage, StudyRefused, SourceFault, SinkFault, NoMemory}
+use Rattle.dk_runner.specs.declared.status.Status.TheVariants.{Finished, Aborted, Usage, StudyRefused, SourceFault, RestartRefused, DiskFault, RestartFull, SinkFault, NoMemory}
+use Rattle.dk_journal.specs.declared.fault.AppendFault.{AppendFault}
+use Rattle.dk_journal.specs.declared.fault.AppendFault.TheVariants as append
+use Rattle.dk_journal.specs.declared.fault.OpenFault.{OpenFault}
+use Rattle.dk_journal.specs.declared.fault.OpenFault.TheVariants as opening
 use Rattle.dk_reader.specs.declared.fault.StudyKind.{StudyKind}
 use Rattle.dk_reader.specs.declared.fault.StudyKind.TheVariants as kinds
 use Rattle.dk_runner.specs.declared.status.Which.TheVariants.{Table, Out}
@@ -14,6 +18,9 @@ code Aborted = 1
 code (Usage at) = 2
 code (StudyRefused fault) = 3
 code SourceFault = 4
+code (RestartRefused fault) = 5
+code DiskFault = 6
+code (RestartFull size) = 7
 code (SinkFault which) = 9
 code NoMemory = 10
 
@@ -36,6 +43,16 @@ kind_text kinds.OutsideBounds = codes "OutsideBounds"
 kind_text kinds.TooMany = codes "TooMany"
 kind_text kinds.OffGrid = codes "OffGrid"
 
+-- why a restart file is refused, as its line has it
+abbrev pub refusal_text : OpenFault → List ℕ
+refusal_text (opening.NotEmpty size) = codes "NotEmpty (length " ++ (decimal size ++ codes ")")
+refusal_text opening.NotARestart = codes "NotARestart"
+refusal_text (opening.OtherShape stored wanted) = codes "OtherShape"
+refusal_text (opening.Damaged offset) = codes "Damaged (offset " ++ (decimal offset ++ codes ")")
+refusal_text (opening.TooLarge size) = codes "TooLarge (length " ++ (decimal size ++ codes ")")
+refusal_text opening.Disk = codes "Disk"
+refusal_text opening.NoMemory = codes "NoMemory"
+
 abbrev pub line : Status → List ℕ
 line Finished = []
 line Aborted = []
@@ -43,6 +60,9 @@ line (Usage at) = codes "dakota: usage: word " ++ (decimal at ++ codes "\n")
 line (StudyRefused fault) =
     codes "dakota: study refused: " ++ (kind_text fault.kind ++ (codes " at bytes " ++ (decimal fault.span.from ++ (codes ".." ++ (decimal fault.span.to ++ codes "\n")))))
 line SourceFault = codes "dakota: study not readable\n"
+line (RestartRefused fault) = codes "dakota: restart refused: " ++ (refusal_text fault ++ codes "\n")
+line DiskFault = codes "dakota: restart file failed\n"
+line (RestartFull size) = codes "dakota: restart file full (length " ++ (decimal size ++ codes ")\n")
 line (SinkFault Table) = codes "dakota: table not written\n"
 line (SinkFault Out) = []
 line NoMemory = codes "dakota: out of memory\n"
@@ -62,8 +82,18 @@ abbrev pub is_early : Status → Bool
 is_early (Usage at) = true
 is_early (StudyRefused fault) = true
 is_early SourceFault = true
+is_early (RestartRefused fault) = true
+is_early DiskFault = true
+is_early (RestartFull size) = true
 is_early NoMemory = true
 is_early _ = false
+
+-- the study wasn't accepted, so that no restart file was called
+abbrev pub is_before_file : Status → Bool
+is_before_file (Usage at) = true
+is_before_file (StudyRefused fault) = true
+is_before_file SourceFault = true
+is_before_file _ = false
 
 abbrev pub is_too_long : StudyKind → Bool
 is_too_long kinds.TooLong = true
@@ -74,6 +104,9 @@ abbrev pub is_read : Status → Bool
 is_read Finished = true
 is_read Aborted = true
 is_read (StudyRefused fault) = not (is_too_long fault.kind)
+is_read (RestartRefused fault) = true
+is_read DiskFault = true
+is_read (RestartFull size) = true
 is_read (SinkFault which) = true
 is_read _ = false
 
@@ -83,3 +116,13 @@ has_line Finished = false
 has_line Aborted = false
 has_line (SinkFault Out) = false
 has_line _ = true
+
+-- the status of a restart file that isn't opened, and of an entry that isn't appended
+abbrev pub status_of_fault : OpenFault → Status
+status_of_fault opening.Disk = DiskFault
+status_of_fault opening.NoMemory = NoMemory
+status_of_fault fault = RestartRefused fault
+
+abbrev pub status_of_refused : AppendFault → Status
+status_of_refused append.Disk = DiskFault
+status_of_refused (append.Full size) = RestartFull size

@@ -1,24 +1,22 @@
 //! A run of a study, from the words of the command line and the bytes of a study to the bytes of the table and of
-//! the summary.
+//! the summary, over a restart file.
 #![tactic(auto)]
 
 mod accept;
 mod built;
 mod checks;
-mod evaluate;
-mod evaluator;
+mod over_file;
 mod refusal;
-mod rows;
 mod run;
-mod settle;
 mod status;
 #[cfg(test)]
 mod tests;
 
 pub use checks::check;
+pub use dk_journal::OpenFault;
 pub use dk_lex::Span;
 pub use dk_reader::{StudyFault, StudyKind};
-pub use dk_words::{Command, CommandFault, Purpose, command};
+pub use dk_words::{Command, CommandFault, Purpose, command, mode_of};
 pub use refusal::{usage, write_line};
 pub use run::{Ended, dakota};
 pub use status::{Status, Which};

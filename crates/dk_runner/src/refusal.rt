@@ -1,11 +1,12 @@
 // The line of a status.
-ghost use Rattle.std.specs.Prelude.{◌≡◌};
+ghost use Rattle.std.specs.Prelude.{◌≡◌, ◌++◌, codes, decimal};
 ghost use Rattle.dk_outside.specs.Flows.{Puts};
-ghost use Rattle.dk_runner.specs.Lines.{line, kind_text};
+ghost use Rattle.dk_runner.specs.Lines.{line, kind_text, refusal_text};
 ghost use Rattle.dk_runner.specs.Headline.{Says, OnlyGrows};
-ghost use Rattle.dk_runner.specs.declared.status.Status.TheVariants.{Usage, StudyRefused, SinkFault};
+ghost use Rattle.dk_runner.specs.declared.status.Status.TheVariants.{Usage, StudyRefused, RestartRefused, RestartFull, SinkFault};
 
 use crate::{Status, StudyFault, StudyKind, Which};
+use dk_journal::OpenFault;
 use dk_outside::{Sink, Writer};
 use dk_report::put_number;
 
@@ -45,6 +46,9 @@ fn put_line<U: Sink>(status: &Status, writer: &mut Writer<'_, U>)
         Status::Usage { at } => put_usage(*at, writer),
         Status::StudyRefused(fault) => put_refused(fault, writer),
         Status::SourceFault => writer.put(b"dakota: study not readable\n"),
+        Status::RestartRefused(fault) => put_unopened(fault, writer),
+        Status::DiskFault => writer.put(b"dakota: restart file failed\n"),
+        Status::RestartFull { length } => put_full(*length, writer),
         Status::SinkFault(which) => put_unwritten(*which, writer),
         Status::NoMemory => writer.put(b"dakota: out of memory\n"),
         Status::Finished | Status::Aborted => {}
@@ -58,6 +62,45 @@ fn put_unwritten<U: Sink>(which: Which, writer: &mut Writer<'_, U>)
         Which::Table => writer.put(b"dakota: table not written\n"),
         Which::Out => {}
     }
+}
+
+fn put_full<U: Sink>(length: u64, writer: &mut Writer<'_, U>)
+    ensures { Puts U.held U.faults writer.old writer.new (line (RestartFull length)) }
+{
+    writer.put(b"dakota: restart file full (length ");
+    put_number(length as usize, writer);
+    writer.put(b")\n");
+}
+
+fn put_unopened<U: Sink>(fault: &OpenFault, writer: &mut Writer<'_, U>)
+    ensures { Puts U.held U.faults writer.old writer.new (line (RestartRefused fault.now)) }
+{
+    writer.put(b"dakota: restart refused: ");
+    put_refusal(fault, writer);
+    writer.put(b"\n");
+}
+
+fn put_refusal<U: Sink>(fault: &OpenFault, writer: &mut Writer<'_, U>)
+    ensures { Puts U.held U.faults writer.old writer.new (refusal_text fault.now) }
+{
+    match fault {
+        OpenFault::NotEmpty { length } => put_counted(b"NotEmpty (length ", *length, writer),
+        OpenFault::NotARestart => writer.put(b"NotARestart"),
+        OpenFault::OtherShape { .. } => writer.put(b"OtherShape"),
+        OpenFault::Damaged { offset } => put_counted(b"Damaged (offset ", *offset, writer),
+        OpenFault::TooLarge { length } => put_counted(b"TooLarge (length ", *length, writer),
+        OpenFault::Disk => writer.put(b"Disk"),
+        OpenFault::NoMemory => writer.put(b"NoMemory"),
+    }
+}
+
+/// A word, a number and a bracket.
+fn put_counted<U: Sink>(word: &[u8], number: u64, writer: &mut Writer<'_, U>)
+    ensures { Puts U.held U.faults writer.old writer.new (word.now ++ (decimal number ++ codes ")")) }
+{
+    writer.put(word);
+    put_number(number as usize, writer);
+    writer.put(b")");
 }
 
 fn put_usage<U: Sink>(at: u32, writer: &mut Writer<'_, U>)

@@ -1,40 +1,46 @@
 // The top call.
-ghost use Rattle.std.specs.Prelude.{◌≡◌, ℕ, ◌≤◌, map, IfSome, IsTrue, None, string_bytes};
+ghost use Rattle.std.specs.Prelude.{◌≡◌, ℕ, ◌≤◌, map, option_map, IfSome, IsTrue, None, Some, string_bytes};
 ghost use Rattle.dk_outside.specs.Causes.{Rose};
 ghost use Rattle.dk_outside.specs.Sources.{IsDrained, TakesAtMost};
+ghost use Rattle.dk_types.specs.declared.study.Study.{Study as StudyOf};
 ghost use Rattle.dk_reader.specs.declared.fault.StudyFault.{StudyFault};
-ghost use Rattle.dk_report.specs.Widths.{HaveWidths};
-ghost use Rattle.dk_runner.specs.Accepted.{Refused};
-ghost use Rattle.dk_runner.specs.Endings.{EndsSo, Reports, Summarizes, scene};
-ghost use Rattle.dk_runner.specs.Headline.{Written, BreaksTable, BreaksSummary, Says, OnlyGrows, EndsAsEvaluated, TellsRefusal, WithoutTable};
-ghost use Rattle.dk_runner.specs.Lines.{line, status_of as status_of_defined, is_decided, is_early, is_read, has_line};
+ghost use Rattle.dk_journal.specs.declared.fault.OpenFault.{OpenFault as OpenFaultOf};
+ghost use Rattle.dk_runner.specs.Accepted.{Accepts, Refused};
+ghost use Rattle.dk_runner.specs.Endings.{EndsSo, scene};
+ghost use Rattle.dk_runner.specs.Headline.{InMode, StopsOver, Written, BreaksTable, BreaksSummary, Says, OnlyGrows, EndsDecided, CanRun, TellsOver, TellsRefusal, WithoutTable};
+ghost use Rattle.dk_runner.specs.Lines.{line, is_decided, is_early, is_read, is_before_file, has_line};
+ghost use Rattle.dk_runner.specs.Restarts.{IsRefusedFile, IsDiskFault, IsFull, LeavesFile, restart_of};
 ghost use Rattle.dk_words.specs.Words.{IsFor, Misused};
 
 use crate::accept::accept;
-use crate::evaluate::{Ran, evaluate};
-use crate::evaluator::Direct;
+use crate::over_file::{Left, run_study};
 use crate::refusal::refuse;
 use crate::{Purpose, Status, Which};
-use dk_outside::{Bench, Disk, Failed, Sink, Source};
-use dk_report::{write_summary, write_table};
-use dk_types::{Ending, Study};
+use dk_book::Book;
+use dk_outside::{Bench, Disk, Mode, Sink, Source};
+use dk_words::mode_of;
 use std::alloc::Global;
 
-/// What a run leaves: how it ended, and the restart file and the benches that it was given.
+/// What a run leaves: how it ended, the book of what is known of attempts, where the restart file was opened, and the
+/// restart file and the benches that it was given.
 #[derive(Drop)]
 pub struct Ended<K, B> {
     pub status: Status,
+    pub book: Option<Book>,
     pub restart: K,
     pub benches: Vec<B>,
 }
 
 /// Does all that the program does.
 ///
-/// The words are `-i FILE`, and `study` is the source over that file. Its text is read, the study is evaluated one
-/// point after another under its rule for failures, and the table and then the summary are written. A text may say any
-/// study; so far vector, list, centered and multidimensional studies over the program's own function are evaluated, and
-/// a compass search, or a study over another program (`fork`), is refused as unsupported, with an empty span at the
-/// text's beginning.
+/// The words are `-i FILE`, with `-r FILE` or `-w FILE` where they name the restart file, and `study` is the source over the
+/// study's file. Its text is read, the restart file is opened, and the study is evaluated one point after another under its
+/// rule for failures: an attempt that the file holds isn't made again, and each one that is made is appended to it before
+/// it counts. Then the table and the summary are written. A text may say any study; so far vector, list, centered and
+/// multidimensional studies over the program's own function are evaluated, and a compass search, or a study over another
+/// program (`fork`), is refused as unsupported, with an empty span at the text's beginning.
+///
+/// `restart` is the restart file's disk, opened as the words say: `mode_of` tells in which mode.
 pub fn dakota<S: Source, K: Disk, T: Sink, U: Sink, B: Bench>(
     alloc: Global,
     words: &[String],
@@ -44,9 +50,11 @@ pub fn dakota<S: Source, K: Disk, T: Sink, U: Sink, B: Bench>(
     out: &mut U,
     benches: Vec<B>,
 ) -> Ended<K, B>
-    // A run that finishes or aborts writes the table and the summary of evaluating the study one point at a time.
-    ensures decided { IsTrue (is_decided result.status) → IfSome (S.left study.old) (λ text.
-        Written text result.status (T.held table.old) (T.held table.new) (U.held out.old) (U.held out.new)) }
+    // A run that finishes or aborts writes the table and the summary of evaluating the study one point at a time, each
+    // attempt answered as the restart file has it at the end. Where the file stood for attempts of the program's own
+    // function at the start, as an empty one does, that is the evaluation over this function.
+    ensures decided { IsTrue (is_decided result.status) → InMode (map string_bytes words.now) (λ mode. IfSome (S.left study.old) (λ text.
+        Written text (restart_of mode (K.told restart) (K.told result.restart) (K.faults restart) (K.faults result.restart) result.book) result.status (T.held table.old) (T.held table.new) (U.held out.old) (U.held out.new))) }
 
     // The study's text was taken to its end, also where it is refused, but for one that is too long.
     ensures taken { IsTrue (is_read result.status) → IsDrained (S.left study.old) (S.left study.new) }
@@ -66,16 +74,25 @@ pub fn dakota<S: Source, K: Disk, T: Sink, U: Sink, B: Bench>(
     ensures table_fault { result.status ≡ Status.SinkFault Which.Table → Rose (T.faults table.old) (T.faults table.new) }
     ensures out_fault { result.status ≡ Status.SinkFault Which.Out → Rose (U.faults out.old) (U.faults out.new) }
 
-    // What the sinks hold then.
-    ensures table_front { result.status ≡ Status.SinkFault Which.Table → IfSome (S.left study.old) (λ text.
-        BreaksTable text (T.held table.old) (T.held table.new)) }
-    ensures summary_front { result.status ≡ Status.SinkFault Which.Out → IfSome (S.left study.old) (λ text.
-        BreaksSummary text (T.held table.old) (T.held table.new) (U.held out.old) (U.held out.new)) }
+    // A restart file is refused, fails or is full only by its cause, while the study isn't decided.
+    ensures stops { InMode (map string_bytes words.now) (λ mode. IfSome (S.left study.old) (λ text.
+        StopsOver text (restart_of mode (K.told restart) (K.told result.restart) (K.faults restart) (K.faults result.restart) result.book) result.status)) }
 
-    // Where nothing fails, a study that is accepted ends as its evaluation does, or for want of memory.
-    ensures complete { IsFor Purpose.Run (map string_bytes words.now) → ¬ Rose (S.faults study.old) (S.faults study.new) →
+    // The restart file is left as it was, or gone on with, and no attempt that it holds is made again.
+    ensures file { InMode (map string_bytes words.now) (λ mode. IfSome (S.left study.old) (λ text. (s : StudyOf) → Accepts Purpose.Run text s →
+        LeavesFile s (restart_of mode (K.told restart) (K.told result.restart) (K.faults restart) (K.faults result.restart) result.book))) }
+
+    // What the sinks hold then.
+    ensures table_front { result.status ≡ Status.SinkFault Which.Table → InMode (map string_bytes words.now) (λ mode. IfSome (S.left study.old) (λ text.
+        BreaksTable text (restart_of mode (K.told restart) (K.told result.restart) (K.faults restart) (K.faults result.restart) result.book) (T.held table.old) (T.held table.new))) }
+    ensures summary_front { result.status ≡ Status.SinkFault Which.Out → InMode (map string_bytes words.now) (λ mode. IfSome (S.left study.old) (λ text.
+        BreaksSummary text (restart_of mode (K.told restart) (K.told result.restart) (K.faults restart) (K.faults result.restart) result.book) (T.held table.old) (T.held table.new) (U.held out.old) (U.held out.new))) }
+
+    // Where nothing fails, a study that is accepted, and whose restart file can be opened and has room, is decided, or there
+    // is no memory.
+    ensures complete { IsFor Purpose.Run (map string_bytes words.now) → ¬ Rose (S.faults study.old) (S.faults study.new) → ¬ Rose (K.faults restart) (K.faults result.restart) →
         ¬ Rose (T.faults table.old) (T.faults table.new) → ¬ Rose (U.faults out.old) (U.faults out.new) →
-        IfSome (S.left study.old) (λ text. EndsAsEvaluated text result.status) }
+        InMode (map string_bytes words.now) (λ mode. IfSome (S.left study.old) (λ text. CanRun text (restart_of mode (K.told restart) (K.told result.restart) (K.faults restart) (K.faults result.restart) result.book) → EndsDecided result.status)) }
 
     // Every other status has its line on `out`, and the table isn't touched before the study is decided.
     ensures says { IsTrue (has_line result.status) → Says (U.held out.old) (U.held out.new) (U.faults out.old) (U.faults out.new) (line result.status) }
@@ -87,75 +104,44 @@ pub fn dakota<S: Source, K: Disk, T: Sink, U: Sink, B: Bench>(
     // Standard output is never begun.
     ensures never_begun { OnlyGrows (U.held out.old) (U.held out.new) }
 
-    // The restart file and the benches aren't called.
-    ensures restart_kept { result.restart ≡ restart }
+    // Before a study is accepted the restart file isn't called, and the benches never are.
+    ensures restart_kept { IsTrue (is_before_file result.status) → result.restart ≡ restart }
     ensures benches_kept { result.benches ≡ benches }
 {
-    let status = run(alloc, words, study, table, out);
+    let left = run(alloc, words, mode_of(words), study, restart, table, out);
     Ended {
-        status,
-        restart,
+        status: left.status,
+        book: left.book,
+        restart: left.restart,
         benches,
     }
 }
 
-fn run<S: Source, T: Sink, U: Sink>(
+fn run<S: Source, K: Disk, T: Sink, U: Sink>(
     alloc: Global,
     words: &[String],
+    mode: Mode,
     source: &mut S,
+    restart: K,
     table: &mut T,
     out: &mut U,
-) -> Status
-    ensures taken { IsTrue (is_read result) → IsDrained (S.left source.old) (S.left source.new) }
-    ensures in_time { result ≡ Status.SourceFault → TakesAtMost 1048576 (S.left source.old) (S.left source.new) }
+) -> Left<K>
+    ensures taken { IsTrue (is_read result.status) → IsDrained (S.left source.old) (S.left source.new) }
+    ensures in_time { result.status ≡ Status.SourceFault → TakesAtMost 1048576 (S.left source.old) (S.left source.new) }
     ensures no_table_asked { IfSome (S.left source.old) (λ text. WithoutTable text (table.new ≡ table.old)) }
     ensures grows { OnlyGrows (U.held out.old) (U.held out.new) }
     ensures ends { EndsSo (scene (map string_bytes words.now) (S.left source.old) (S.faults source.old) (S.faults source.new)
         (T.held table.old) (T.held table.new) (T.faults table.old) (T.faults table.new)
-        (U.held out.old) (U.held out.new) (U.faults out.old) (U.faults out.new)) (table.new ≡ table.old) result }
+        (U.held out.old) (U.held out.new) (U.faults out.old) (U.faults out.new))
+        (restart_of mode (K.told restart) (K.told result.restart) (K.faults restart) (K.faults result.restart) result.book)
+        (table.new ≡ table.old) (result.restart ≡ restart) result.status }
 {
-    let study = match accept(alloc, Purpose::Run, words, source) {
-        Ok(study) => study,
-        Err(status) => return refuse(status, out),
-    };
-    match evaluate(alloc, &study, &Direct) {
-        Ok(ran) => report(&study, &ran, table, out),
-        Err(_) => refuse(Status::NoMemory, out),
-    }
-}
-
-/// Writes the table and then the summary.
-fn report<T: Sink, U: Sink>(study: &Study, ran: &Ran, table: &mut T, out: &mut U) -> Status
-    requires widths { HaveWidths study.now ran.now.rows.rows }
-    ensures grows { OnlyGrows (U.held out.old) (U.held out.new) }
-    ensures leaves_table { study.now.table ≡ None → table.new ≡ table.old }
-    ensures reports { Reports study.now ran.now.rows.rows ran.now.ending (T.held table.old) (T.held table.new) (T.faults table.old) (T.faults table.new)
-        (U.held out.old) (U.held out.new) (U.faults out.old) (U.faults out.new) result }
-{
-    match write_table(study, &ran.rows, table) {
-        Ok(()) => report_summary(study, ran, out),
-        Err(Failed) => refuse(Status::SinkFault(Which::Table), out),
-    }
-}
-
-/// Writes the summary.
-fn report_summary<U: Sink>(study: &Study, ran: &Ran, out: &mut U) -> Status
-    requires widths { HaveWidths study.now ran.now.rows.rows }
-    ensures grows { OnlyGrows (U.held out.old) (U.held out.new) }
-    ensures summarizes { Summarizes study.now ran.now.rows.rows ran.now.ending (U.held out.old) (U.held out.new) (U.faults out.old) (U.faults out.new) result }
-{
-    match write_summary(study, &ran.rows, &ran.ending, out) {
-        Ok(()) => status_of(&ran.ending),
-        Err(Failed) => Status::SinkFault(Which::Out),
-    }
-}
-
-/// The status of a study that was decided.
-fn status_of(ending: &Ending) -> Status
-    ensures { result ≡ status_of_defined ending.now }
-{
-    match ending {
-        Ending::Finished(_) => Status::Finished,
-        Ending::Aborted { .. } => Status::Aborted,
+    match accept(alloc, Purpose::Run, words, source) {
+        Ok(study) => run_study(alloc, &study, mode, restart, table, out),
+        Err(status) => Left {
+            status: refuse(status, out),
+            book: None,
+            restart,
+        },
     }
 }

@@ -1,4 +1,5 @@
 // How a run ends.
+use dk_journal::OpenFault;
 use dk_reader::StudyFault;
 
 /// One of the two sinks.
@@ -9,7 +10,7 @@ pub enum Which {
 }
 
 /// How a run ended.
-#[derive(Clone, Copy, Debug, PartialEq, Eq)]
+#[derive(Debug, Drop)]
 pub enum Status {
     /// The study finished, and its table and summary are written.
     Finished,
@@ -21,6 +22,13 @@ pub enum Status {
     StudyRefused(StudyFault),
     /// The study's text could not be read.
     SourceFault,
+    /// The restart file isn't one that the study can go on with. It is as it was.
+    RestartRefused(OpenFault),
+    /// The restart file's disk failed, and the study isn't decided by what the file is known to hold.
+    DiskFault,
+    /// With the record that came next the restart file would have this length in bytes, more than 2^28. The study isn't
+    /// decided.
+    RestartFull { length: u64 },
     /// The study was decided, and a sink failed while its text was written.
     SinkFault(Which),
     /// There was no memory.
@@ -35,12 +43,15 @@ impl Status {
     pub fn code(&self) -> u8
         ensures { result ≡ code self.now }
     {
-        match *self {
+        match self {
             Status::Finished => 0,
             Status::Aborted => 1,
             Status::Usage { at: _ } => 2,
             Status::StudyRefused(_) => 3,
             Status::SourceFault => 4,
+            Status::RestartRefused(_) => 5,
+            Status::DiskFault => 6,
+            Status::RestartFull { length: _ } => 7,
             Status::SinkFault(_) => 9,
             Status::NoMemory => 10,
         }

@@ -1,17 +1,26 @@
-//! Whole runs over a source and sinks in memory.
+//! Whole runs over a source, a restart file and sinks in memory.
+mod bench;
 mod checks;
-mod evaluators;
-mod fakes;
+mod crashes;
+mod files;
+mod long_disk;
+mod recovery;
+mod refusals;
+mod restarts;
 mod sizes;
 mod studies;
 mod texts;
 
-use crate::{Span, Status, StudyFault, StudyKind, Which, dakota, usage};
-use fakes::{Given, Idle, Kept};
+use crate::{
+    Ended, OpenFault, Span, Status, StudyFault, StudyKind, Which, dakota, usage, write_line,
+};
+use bench::NoBench;
+use dk_book::Book;
+use dk_memory::{Image, MemDisk, MemSink, MemSource};
 use std::alloc::{AllocError, Global};
 use std::process::Abort;
 use std::test::Fail;
-use texts::{BASE, edited, unmarked};
+use texts::{edited, words_of};
 
 const FOUND: &str = "<<<<< Study finished: complete
 <<<<< Function evaluation summary: 3 total (3 new, 0 duplicate)
@@ -74,77 +83,123 @@ const NO_BEST: &str = "<<<<< Study finished: complete
 <<<<< Function evaluation summary: 3 total (3 new, 0 duplicate)
 ";
 
-/// What a run left: its status, the table's name and bytes, and the bytes on standard output.
+/// The words of a run over a new restart file, and of one that goes on with a file.
+const FRESH: &[&str] = &["-i", "s1.in"];
+
+const RESUMED: &[&str] = &["-i", "s1.in", "-r", "s1.rst"];
+
+/// Room for each table and each summary.
+const PLENTY: usize = 100_000_000;
+
+/// What a run left: its status, the book, the restart file's disk, the table, and standard output.
 #[derive(Drop)]
 struct Left {
     status: Status,
-    table: Kept,
-    out: Kept,
+    book: Option<Book>,
+    disk: MemDisk,
+    table: MemSink,
+    out: MemSink,
 }
 
-/// A run over the words, a source and a table with so much room.
-fn run(alloc: Global, words: &[&str], mut source: Given, room: usize) -> Result<Left, AllocError> {
-    let mut texts = Vec::new(alloc);
-    for word in words {
-        texts.push(String::from_str(alloc, word)?)?;
+impl Left {
+    /// The bytes of the restart file, as reads give them.
+    fn file(&self) -> Result<Vec<u8>, AllocError> {
+        self.disk.image(self.disk.moments(), Image::New)
     }
-    let mut table = Kept::file(alloc, room);
-    let mut out = Kept::new(alloc, 1000);
-    let ended = dakota(
+}
+
+/// A run over a source and a disk, with so much room for the table and on standard output.
+fn run_within(
+    alloc: Global,
+    words: &[&str],
+    mut source: MemSource,
+    disk: MemDisk,
+    table_room: usize,
+    out_room: usize,
+) -> Result<Left, AllocError> {
+    let words = words_of(alloc, words)?;
+    let mut table = MemSink::sink(alloc, table_room, &[])?;
+    let mut out = MemSink::sink(alloc, out_room, &[])?;
+    let Ended {
+        status,
+        book,
+        restart,
+        benches: _,
+    } = dakota(
         alloc,
-        &texts,
+        &words,
         &mut source,
-        Idle::new(),
+        disk,
         &mut table,
         &mut out,
-        vec![in alloc; Idle::new()]?,
+        vec![in alloc; NoBench::new()]?,
     );
     Ok(Left {
-        status: ended.status,
+        status,
+        book,
+        disk: restart,
         table,
         out,
     })
 }
 
-fn refused(kind: StudyKind, from: u32, to: u32) -> Status {
-    Status::StudyRefused(StudyFault {
-        kind,
-        span: Span { from, to },
-    })
+/// A run of the base study with these edits over a disk.
+fn run(
+    alloc: Global,
+    words: &[&str],
+    edits: &[(&str, &str)],
+    disk: MemDisk,
+) -> Result<Left, AllocError> {
+    let source = MemSource::source(alloc, &edited(alloc, edits)?, &[])?;
+    run_within(alloc, words, source, disk, PLENTY, PLENTY)
+}
+
+/// A run of it over an empty disk.
+fn run_anew(alloc: Global, edits: &[(&str, &str)]) -> Result<Left, AllocError> {
+    run(alloc, FRESH, edits, MemDisk::disk(alloc, b"", &[], None)?)
+}
+
+/// A run of a text, from a source whose calls of these numbers fail, over an empty disk.
+fn run_text(alloc: Global, words: &[&str], text: &[u8], fail: &[u64]) -> Result<Left, AllocError> {
+    let source = MemSource::source(alloc, text, fail)?;
+    let disk = MemDisk::disk(alloc, b"", &[], None)?;
+    run_within(alloc, words, source, disk, PLENTY, PLENTY)
+}
+
+/// The run ended with this exit status, this table and this text on standard output.
+fn assert_told(rt: &impl Abort, left: &Left, code: u8, table: &str, out: &str) {
+    assert_eq!(rt; left.status.code(), code, "{out}");
+    assert_eq!(rt; left.table.taken(), table.as_bytes(), "{out}");
+    assert_eq!(rt; left.out.taken(), out.as_bytes(), "{out}");
+}
+
+/// The run ended with this exit status and this line, and its table wasn't begun.
+fn assert_refused(rt: &impl Abort, left: &Left, code: u8, line: &str) {
+    assert_told(rt, left, code, "", line);
+    assert_eq!(rt; left.table.begun(), None, "{line}");
 }
 
 /// A study with these numbers finds its minimum at the third of three points.
 #[test]
 fn a_study_is_evaluated_and_told(rt: HostRuntime) -> Result<(), Fail> {
-    let alloc = rt.alloc();
-    let text = edited(alloc, &[])?;
-    let left = run(alloc, &["-i", "s1.in"], Given::of(text), 1000)?;
-    assert_eq!(rt; left.status, Status::Finished);
-    assert_eq!(rt; left.table.name(), b"t.dat".as_slice());
-    assert_eq!(rt; left.table.taken(), TABLE.as_bytes());
-    assert_eq!(rt; left.table.faults(), 0);
-    assert_eq!(rt; left.out.taken(), FOUND.as_bytes());
-    assert_eq!(rt; left.out.name().len(), 0);
+    let left = run_anew(rt.alloc(), &[])?;
+    assert_told(&rt, &left, 0, TABLE, FOUND);
+    assert_eq!(rt; left.table.begun(), Some("t.dat"));
+    assert_eq!(rt; left.out.begun(), None);
     Ok(())
 }
 
 /// The rows and the summary of other numbers: one point, a point without a value, and a study that stands still.
 #[test]
 fn other_numbers_give_other_rows(rt: HostRuntime) -> Result<(), Fail> {
-    let alloc = rt.alloc();
-    let cases: [(&[(&str, &str)], Status, &str, &str); 3] = [
-        (
-            &[("num_steps = 2", "num_steps = 0")],
-            Status::Finished,
-            ONE_ROW,
-            ONE_POINT,
-        ),
+    let cases: [(&[(&str, &str)], u8, &str, &str); 3] = [
+        (&[("num_steps = 2", "num_steps = 0")], 0, ONE_ROW, ONE_POINT),
         (
             &[
                 ("num_steps = 2", "num_steps = 1"),
                 ("0.5 0.5", "0.3333333333333333333333333333 0"),
             ],
-            Status::Aborted,
+            1,
             ONE_ROW,
             ABORTED,
         ),
@@ -154,189 +209,125 @@ fn other_numbers_give_other_rows(rt: HostRuntime) -> Result<(), Fail> {
                 ("0.5 0.5", "0 0e7"),
                 ("initial_point = 0 0", "initial_point = +1. 1e0"),
             ],
-            Status::Finished,
+            0,
             SAME_ROWS,
             STANDS_STILL,
         ),
     ];
-    for (edits, status, rows, told) in cases {
-        let text = edited(alloc, edits)?;
-        let left = run(alloc, &["-i", "s1.in"], Given::of(text), 1000)?;
-        assert_eq!(rt; left.status, status, "{told}");
-        assert_eq!(rt; left.table.taken(), rows.as_bytes(), "{told}");
-        assert_eq!(rt; left.out.taken(), told.as_bytes(), "{told}");
+    for (edits, code, rows, told) in cases {
+        assert_told(&rt, &run_anew(rt.alloc(), edits)?, code, rows, told);
     }
     Ok(())
 }
 
-/// Words that aren't a run's are refused at their place, and nothing is read or begun.
-#[test]
-fn other_words_are_refused_at_their_place(rt: HostRuntime) -> Result<(), Fail> {
-    let alloc = rt.alloc();
-    let cases: [(&[&str], u32, &str); 5] = [
-        (&[], 1, "dakota: usage: word 1\n"),
-        (&["-frob"], 1, "dakota: usage: word 1\n"),
-        (&["-i"], 2, "dakota: usage: word 2\n"),
-        (&["-i", "-x"], 2, "dakota: usage: word 2\n"),
-        (&["-i", "a", "b"], 3, "dakota: usage: word 3\n"),
-    ];
-    for (words, at, line) in cases {
-        let left = run(alloc, words, Given::failing(alloc), 1000)?;
-        assert_eq!(rt; left.status, Status::Usage { at });
-        assert_eq!(rt; left.out.taken(), line.as_bytes());
-        assert_eq!(rt; left.table.name().len(), 0);
-    }
-    Ok(())
-}
-
-/// Labels, the table's name and the response are the text's. Without an objective function there is no best row, and
-/// the sink of a table that isn't asked for isn't called.
+/// Labels, the table's name and the response are the text's. Without an objective function there is no best row.
 #[test]
 fn other_parts_of_a_study_are_the_texts(rt: HostRuntime) -> Result<(), Fail> {
-    let alloc = rt.alloc();
-    let cases: [(&[(&str, &str)], &str, &str, &str); 2] = [
+    let edits = [
+        ("'t.dat'", "'rows.txt'"),
+        ("'x1' 'x2'", "'length' 'width'"),
         (
-            &[
-                ("'t.dat'", "'rows.txt'"),
-                ("'x1' 'x2'", "'length' 'width'"),
-                (
-                    "objective_functions = 1",
-                    "objective_functions = 1 descriptors = 'cost'",
-                ),
-            ],
-            "rows.txt",
-            OTHER_HEADER,
-            OTHER_LABELS,
-        ),
-        (
-            &[
-                ("  tabular_data\n    tabular_data_file = 't.dat'\n", ""),
-                ("'x1' 'x2'", "'length' 'width'"),
-                ("objective_functions", "response_functions"),
-            ],
-            "",
-            "",
-            NO_BEST,
+            "objective_functions = 1",
+            "objective_functions = 1 descriptors = 'cost'",
         ),
     ];
-    for (edits, name, rows, told) in cases {
-        let text = edited(alloc, edits)?;
-        let left = run(alloc, &["-i", "s1.in"], Given::of(text), 1000)?;
-        assert_eq!(rt; left.status, Status::Finished);
-        assert_eq!(rt; left.table.name(), name.as_bytes());
-        assert_eq!(rt; left.table.taken(), rows.as_bytes());
-        assert_eq!(rt; left.table.faults(), 0);
-        assert_eq!(rt; left.out.taken(), told.as_bytes());
-    }
+    let left = run_anew(rt.alloc(), &edits)?;
+    assert_told(&rt, &left, 0, OTHER_HEADER, OTHER_LABELS);
+    assert_eq!(rt; left.table.begun(), Some("rows.txt"));
+    let left = run_anew(rt.alloc(), &[("objective_functions", "response_functions")])?;
+    assert_eq!(rt; left.out.taken(), NO_BEST.as_bytes());
     Ok(())
 }
 
-/// A kind of fault, and the edits of the base study that give it, with brackets round its place.
-type Refusal<'a> = (StudyKind, &'a [(&'a str, &'a str)]);
-
-fn assert_refused(
-    rt: &impl Abort,
-    alloc: Global,
-    text: Vec<u8>,
-    kind: StudyKind,
-    from: u32,
-    to: u32,
-) -> Result<(), Fail> {
-    let left = run(alloc, &["-i", "s1.in"], Given::of(text), 1000)?;
-    assert_eq!(rt; left.status, refused(kind, from, to));
-    let line = format!(in alloc; "dakota: study refused: {kind:?} at bytes {from}..{to}\n")?;
-    assert_eq!(rt; left.out.taken(), line.as_bytes());
-    assert_eq!(rt; left.table.name().len(), 0);
-    Ok(())
-}
-
-/// A text that says no study is refused for its first fault, at its place, and nothing is evaluated.
+/// The sink of a table that isn't asked for isn't called: it has no room.
 #[test]
-fn other_texts_are_refused_at_their_place(rt: HostRuntime) -> Result<(), Fail> {
+fn a_table_is_written_where_it_is_asked_for(rt: HostRuntime) -> Result<(), Fail> {
     let alloc = rt.alloc();
-    let cases: [Refusal; 8] = [
-        (StudyKind::MissingBlock, &[(BASE, "")]),
-        (
-            StudyKind::UnknownKeyword,
-            &[("num_steps = 2", "[numsteps] = 2")],
-        ),
-        (StudyKind::OpenString, &[("'x1' 'x2'", "'x1' ['x2]")]),
-        (
-            StudyKind::BadWhole,
-            &[("num_steps = 2", "num_steps = [10001]")],
-        ),
-        (StudyKind::BadNumber, &[("0.5 0.5", "0.5 [1e401]")]),
-        (
-            StudyKind::WrongCount,
-            &[("step_vector = 0.5 0.5", "[step_vector] = 1 1 1")],
-        ),
-        (StudyKind::Unsupported, &[("'rosenbrock'", "['other']")]),
-        (StudyKind::OffGrid, &[("0.5 0.5", "1e20 [1e-20]")]),
-    ];
-    for (kind, edits) in cases {
-        let (text, from, to) = unmarked(alloc, &edited(alloc, edits)?)?;
-        assert_refused(&rt, alloc, text, kind, from, to)?;
-    }
-    let long = vec![in alloc; b'#'; 1_048_577]?;
-    assert_refused(&rt, alloc, long, StudyKind::TooLong, 0, 0)
-}
-
-/// Studies that aren't evaluated so far are refused as unsupported, at the text's beginning.
-#[test]
-fn studies_that_are_not_built_are_refused(rt: HostRuntime) -> Result<(), Fail> {
-    let alloc = rt.alloc();
-    let vector = "vector_parameter_study\n    num_steps = 2\n    step_vector = 0.5 0.5";
-    let search = "compass_search initial_delta = 1 threshold_delta = 0.5";
-    let cases: [&[(&str, &str)]; 3] = [
-        &[(vector, search)],
-        &[("'rosenbrock'\n    direct", "'simulate -v' fork")],
-        &[(
-            "'rosenbrock'\n    direct",
-            "'simulate -v' fork failure_capture retry = 2",
-        )],
-    ];
-    for edits in cases {
-        let text = edited(alloc, edits)?;
-        assert_refused(&rt, alloc, text, StudyKind::Unsupported, 0, 0)?;
-    }
+    let no_table = ("  tabular_data\n    tabular_data_file = 't.dat'\n", "");
+    let source = MemSource::source(alloc, &edited(alloc, &[no_table])?, &[])?;
+    let disk = MemDisk::disk(alloc, b"", &[], None)?;
+    let left = run_within(alloc, FRESH, source, disk, 0, PLENTY)?;
+    assert_told(&rt, &left, 0, "", FOUND);
+    assert_eq!(rt; left.table.begun(), None);
     Ok(())
 }
 
-/// A source that fails, and a table for which there is no room.
+/// A source that fails, a table for which there is no room, and a standard output without room for the summary.
 #[test]
 fn faults_of_the_outside_are_told(rt: HostRuntime) -> Result<(), Fail> {
     let alloc = rt.alloc();
-    let left = run(alloc, &["-i", "s1.in"], Given::failing(alloc), 1000)?;
-    assert_eq!(rt; left.status, Status::SourceFault);
-    assert_eq!(rt; left.out.taken(), "dakota: study not readable\n".as_bytes());
-    let text = edited(alloc, &[])?;
-    let left = run(alloc, &["-i", "s1.in"], Given::of(text), 10)?;
-    assert_eq!(rt; left.status, Status::SinkFault(Which::Table));
-    assert_eq!(rt; left.table.taken(), "%eval_id i".as_bytes());
-    assert_eq!(rt; left.out.taken(), "dakota: table not written\n".as_bytes());
+    let cases: [(&[u64], usize, usize, u8, &str, &str); 3] = [
+        (&[1], PLENTY, PLENTY, 4, "", "dakota: study not readable\n"),
+        (
+            &[],
+            10,
+            PLENTY,
+            9,
+            "%eval_id i",
+            "dakota: table not written\n",
+        ),
+        (&[], PLENTY, 10, 9, TABLE, "<<<<< Stud"),
+    ];
+    for (fail, table_room, out_room, code, table, told) in cases {
+        let source = MemSource::source(alloc, &edited(alloc, &[])?, fail)?;
+        let disk = MemDisk::disk(alloc, b"", &[], None)?;
+        let left = run_within(alloc, FRESH, source, disk, table_room, out_room)?;
+        assert_told(&rt, &left, code, table, told);
+    }
     Ok(())
 }
 
-/// Each status has its exit status.
+/// A status has this exit status and this line.
+fn assert_status(
+    rt: &impl Abort,
+    alloc: Global,
+    status: Status,
+    code: u8,
+    line: &str,
+) -> Result<(), AllocError> {
+    let mut out = MemSink::sink(alloc, PLENTY, &[])?;
+    write_line(&status, &mut out);
+    assert_eq!(rt; status.code(), code);
+    assert_eq!(rt; out.taken(), line.as_bytes());
+    Ok(())
+}
+
+/// Each status has its exit status and its line.
 #[test]
-fn statuses_have_their_codes(rt: HostRuntime) {
-    let cases = [
-        (Status::Finished, 0),
-        (Status::Aborted, 1),
-        (Status::Usage { at: 1 }, 2),
-        (refused(StudyKind::OffGrid, 7, 9), 3),
-        (Status::SourceFault, 4),
-        (Status::SinkFault(Which::Out), 9),
-        (Status::NoMemory, 10),
-    ];
-    for (status, code) in cases {
-        assert_eq!(rt; status.code(), code);
+fn statuses_have_their_codes_and_lines(rt: HostRuntime) -> Result<(), Fail> {
+    let off_grid = StudyFault {
+        kind: StudyKind::OffGrid,
+        span: Span { from: 7, to: 9 },
+    };
+    let refused = "dakota: study refused: OffGrid at bytes 7..9\n";
+    let length = 268_435_457;
+    let long = OpenFault::TooLarge { length };
+    let too_long = "dakota: restart refused: TooLarge (length 268435457)\n";
+    let full = "dakota: restart file full (length 268435457)\n";
+    let failed = "dakota: restart file failed\n";
+    let unwritten = "dakota: table not written\n";
+    for (status, code, line) in [
+        (Status::Finished, 0, ""),
+        (Status::Aborted, 1, ""),
+        (Status::Usage { at: 1 }, 2, "dakota: usage: word 1\n"),
+        (Status::StudyRefused(off_grid), 3, refused),
+        (Status::SourceFault, 4, "dakota: study not readable\n"),
+        (Status::RestartRefused(long), 5, too_long),
+        (Status::DiskFault, 6, failed),
+        (Status::RestartFull { length }, 7, full),
+        (Status::SinkFault(Which::Table), 9, unwritten),
+        (Status::SinkFault(Which::Out), 9, ""),
+        (Status::NoMemory, 10, "dakota: out of memory\n"),
+    ] {
+        assert_status(&rt, rt.alloc(), status, code, line)?;
     }
+    Ok(())
 }
 
 #[test]
-fn usage_is_told(rt: HostRuntime) {
-    let mut out = Kept::new(rt.alloc(), 1000);
-    assert_eq!(rt; usage(7, &mut out), Status::Usage { at: 7 });
+fn usage_is_told(rt: HostRuntime) -> Result<(), Fail> {
+    let mut out = MemSink::sink(rt.alloc(), PLENTY, &[])?;
+    assert_eq!(rt; usage(7, &mut out).code(), 2);
     assert_eq!(rt; out.taken(), "dakota: usage: word 7\n".as_bytes());
+    Ok(())
 }

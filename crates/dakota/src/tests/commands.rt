@@ -4,6 +4,8 @@ use crate::carry_out::{HELP, VERSION, carry_out};
 use dk_real::OutSink;
 use std::alloc::{AllocError, Global};
 use std::fs;
+use std::fs::File;
+use std::process::Abort;
 use std::rt::Files;
 use std::test::Fail;
 
@@ -43,6 +45,18 @@ const UNREADABLE: &str = "dakota: study not readable\n";
 
 const UNWRITTEN: &str = "dakota: table not written\n";
 
+const UNOPENED: &str = "dakota: restart file failed\n";
+
+const NO_RESTART: &str = "dakota: restart refused: NotARestart\n";
+
+/// The restart file of a run, and the one that words name.
+const RESTART: &str = "dakota.rst";
+
+const NAMED: &str = "x.rst";
+
+/// How many bytes the restart file of two evaluations has.
+const TWO_RECORDS: usize = 147;
+
 /// The step and the words of the interface of studies.
 const PLAIN: (&str, &str) = ("1 1", "direct");
 
@@ -72,6 +86,13 @@ fn texts(alloc: Global, words: &[&str]) -> Result<Vec<String>, AllocError> {
     Ok(texts)
 }
 
+/// Takes away what an earlier run in this folder may have left.
+fn begin_anew<R: Files>(rt: &R) {
+    for name in [RESTART, NAMED, "hard.in", "soft.in"] {
+        let _ = fs::remove_file(rt, name);
+    }
+}
+
 /// The words, the study in the file and its table's name, and then the exit status, what is printed, and what the
 /// table's file has.
 type Case = (
@@ -83,7 +104,7 @@ type Case = (
     &'static str,
 );
 
-const CASES: [Case; 18] = [
+const CASES: [Case; 22] = [
     (&["-i", STUDY], PLAIN, TABLE, 0, FINISHED, ROWS),
     (&["-input", "./s.in"], PLAIN, TABLE, 0, FINISHED, ROWS),
     (&["-i", STUDY], UNEVEN, TABLE, 1, ABORTED, FIRST_ROW),
@@ -109,12 +130,30 @@ const CASES: [Case; 18] = [
         "dakota: usage: word 3\n",
         OLDER,
     ),
+    (&["-i", STUDY, "-w", NAMED], PLAIN, TABLE, 0, FINISHED, ROWS),
+    (&["-i", STUDY, "-r", NAMED], PLAIN, TABLE, 0, FINISHED, ROWS),
     (
-        &["-i", STUDY, "-w", "x.rst"],
+        &["-r", "none.rst", "-i", STUDY],
         PLAIN,
         TABLE,
-        2,
-        "dakota: usage: word 3\n",
+        6,
+        UNOPENED,
+        OLDER,
+    ),
+    (
+        &["-i", STUDY, "-r", TABLE],
+        PLAIN,
+        TABLE,
+        5,
+        NO_RESTART,
+        OLDER,
+    ),
+    (
+        &["-i", STUDY, "-w", STUDY],
+        PLAIN,
+        TABLE,
+        6,
+        UNOPENED,
         OLDER,
     ),
     (
@@ -153,19 +192,35 @@ const CASES: [Case; 18] = [
     (&["-i", STUDY], PLAIN, "none/t.dat", 9, UNWRITTEN, OLDER),
 ];
 
+/// A command ends and prints as it should, and leaves its table so.
+fn assert_command<R: Files<File = File> + AllocGlobal + Abort>(
+    rt: &R,
+    words: &[&str],
+    left: &str,
+    status: u8,
+    told: &str,
+) -> Result<(), Fail> {
+    let alloc = rt.alloc();
+    let _ = fs::remove_file(rt, RESTART);
+    fs::write(rt, TABLE, OLDER)?;
+    let mut page = Page::new(alloc);
+    let ended = carry_out(rt, &texts(alloc, words)?, &mut page);
+    assert_eq!(rt; page.text(), told.as_bytes());
+    assert_eq!(rt; ended.code(), status, "at {told}");
+    let file = fs::read(rt, TABLE)?;
+    assert_eq!(rt; file.as_slice(), left.as_bytes());
+    Ok(())
+}
+
 #[test]
 fn commands_end_and_print_as_they_should(rt: HostRuntime) -> Result<(), Fail> {
-    let alloc = rt.alloc();
+    begin_anew(&rt);
     for (words, study, table, status, told, left) in CASES {
-        fs::write(&rt, STUDY, study_text(alloc, table, study)?)?;
-        fs::write(&rt, TABLE, OLDER)?;
-        let mut page = Page::new(alloc);
-        let ended = carry_out(&rt, &texts(alloc, words)?, &mut page);
-        assert_eq!(rt; page.text(), told.as_bytes());
-        assert_eq!(rt; ended.code(), status, "at {told}");
-        let file = fs::read(&rt, TABLE)?;
-        assert_eq!(rt; file.as_slice(), left.as_bytes());
+        fs::write(&rt, STUDY, study_text(rt.alloc(), table, study)?)?;
+        assert_command(&rt, words, left, status, told)?;
     }
+    let file = fs::read(&rt, NAMED)?;
+    assert_eq!(rt; file.len(), TWO_RECORDS);
     Ok(())
 }
 
@@ -181,6 +236,7 @@ fn a_closed_standard_output_is_told_by_the_status(rt: HostRuntime) -> Result<(),
         (&["-i", "none.in"], 4, OLDER),
     ];
     for (words, status, left) in cases {
+        begin_anew(&rt);
         fs::write(&rt, STUDY, study_text(alloc, TABLE, PLAIN)?)?;
         fs::write(&rt, TABLE, OLDER)?;
         let ended = carry_out(&rt, &texts(alloc, words)?, &mut OutSink::new(&Closed));
@@ -194,17 +250,15 @@ fn a_closed_standard_output_is_told_by_the_status(rt: HostRuntime) -> Result<(),
 #[test]
 fn a_table_cannot_take_the_studys_place(rt: HostRuntime) -> Result<(), Fail> {
     let alloc = rt.alloc();
+    begin_anew(&rt);
     fs::write(&rt, STUDY, "")?;
-    // An earlier run in this folder may have left them.
-    for link in ["hard.in", "soft.in"] {
-        let _ = fs::remove_file(&rt, link);
-    }
     fs::hard_link(&rt, STUDY, "hard.in")?;
     rt.symlink(STUDY, "soft.in")?;
     for name in [STUDY, "./s.in", "hard.in", "soft.in"] {
         let text = study_text(alloc, name, PLAIN)?;
         fs::write(&rt, STUDY, text.as_str())?;
         for path in [STUDY, "./s.in", "soft.in"] {
+            let _ = fs::remove_file(&rt, RESTART);
             let mut page = Page::new(alloc);
             let ended = carry_out(&rt, &texts(alloc, &["-i", path])?, &mut page);
             assert_eq!(rt; ended.code(), 9);

@@ -1,7 +1,10 @@
 // Checks of studies in memory.
-use super::fakes::{Given, Kept};
-use crate::{Span, Status, StudyFault, StudyKind, Which, check};
+use super::PLENTY;
+use super::texts::words_of;
+use crate::check;
+use dk_memory::{MemSink, MemSource};
 use std::alloc::{AllocError, Global};
+use std::process::Abort;
 use std::test::Fail;
 
 const GRID: &str = "method
@@ -28,86 +31,60 @@ const REPEATED: &str = "method
 
 const LINE: &str = "study accepted: variables 2, responses 1, evaluations at most 81\n";
 
-/// What a check left: its status, and what is on standard output.
-#[derive(Drop)]
-struct Left {
-    status: Status,
-    out: Kept,
-}
+const REPEATED_LINE: &str = "dakota: study refused: Repeated at bytes 59..69\n";
 
-/// A check over the words and a source, with so much room on standard output.
-fn checked(
+const WORDS: &[&str] = &["-check", "-i", "a"];
+
+/// A check over the words and the bytes of a source, whose calls of these numbers fail, with so much room on standard
+/// output, comes to this exit status and these bytes there.
+fn assert_checked(
+    rt: &impl Abort,
     alloc: Global,
     words: &[&str],
-    mut source: Given,
+    (text, fail): (&[u8], &[u64]),
     room: usize,
-) -> Result<Left, AllocError> {
-    let mut texts = Vec::new(alloc);
-    for word in words {
-        texts.push(String::from_str(alloc, word)?)?;
-    }
-    let mut out = Kept::new(alloc, room);
-    let status = check(alloc, &texts, &mut source, &mut out);
-    Ok(Left { status, out })
-}
-
-fn given(alloc: Global, text: &str) -> Result<Given, AllocError> {
-    Ok(Given::of(Vec::from_slice(alloc, text.as_bytes())?))
-}
-
-fn refused(kind: StudyKind, from: u32, to: u32) -> Status {
-    Status::StudyRefused(StudyFault {
-        kind,
-        span: Span { from, to },
-    })
+    (code, told): (u8, &str),
+) -> Result<(), AllocError> {
+    let words = words_of(alloc, words)?;
+    let mut source = MemSource::source(alloc, text, fail)?;
+    let mut out = MemSink::sink(alloc, room, &[])?;
+    let status = check(alloc, &words, &mut source, &mut out);
+    assert_eq!(rt; status.code(), code, "{told}");
+    assert_eq!(rt; out.taken(), told.as_bytes(), "{told}");
+    assert_eq!(rt; out.begun(), None, "{told}");
+    Ok(())
 }
 
 #[test]
 fn a_study_is_accepted(rt: HostRuntime) -> Result<(), Fail> {
     let alloc = rt.alloc();
-    for words in [["-check", "-i", "a"], ["-input", "a", "-check"]] {
-        let left = checked(alloc, &words, given(alloc, GRID)?, 1000)?;
-        assert_eq!(rt; left.status, Status::Finished);
-        assert_eq!(rt; left.out.taken(), LINE.as_bytes());
-        assert_eq!(rt; left.out.name().len(), 0);
-    }
+    let grid = GRID.as_bytes();
+    assert_checked(&rt, alloc, WORDS, (grid, &[]), PLENTY, (0, LINE))?;
+    let words = ["-input", "a", "-check"];
+    assert_checked(&rt, alloc, &words, (grid, &[]), PLENTY, (0, LINE))?;
     Ok(())
 }
 
 #[test]
 fn other_texts_are_refused(rt: HostRuntime) -> Result<(), Fail> {
     let alloc = rt.alloc();
-    let cases = [
-        (
-            given(alloc, REPEATED)?,
-            refused(StudyKind::Repeated, 59, 69),
-            "dakota: study refused: Repeated at bytes 59..69\n",
-        ),
-        (
-            given(alloc, "")?,
-            refused(StudyKind::MissingBlock, 0, 0),
-            "dakota: study refused: MissingBlock at bytes 0..0\n",
-        ),
-        (
-            Given::of(vec![in alloc; b'#'; 1_048_577]?),
-            refused(StudyKind::TooLong, 0, 0),
-            "dakota: study refused: TooLong at bytes 0..0\n",
-        ),
+    let long = vec![in alloc; b'#'; 1_048_577]?;
+    let cases: [(&[u8], &str); 3] = [
+        (REPEATED.as_bytes(), REPEATED_LINE),
+        (b"", "dakota: study refused: MissingBlock at bytes 0..0\n"),
+        (&long, "dakota: study refused: TooLong at bytes 0..0\n"),
     ];
-    for (source, status, line) in cases {
-        let left = checked(alloc, &["-check", "-i", "a"], source, 1000)?;
-        assert_eq!(rt; left.status, status);
-        assert_eq!(rt; left.out.taken(), line.as_bytes());
+    for (text, line) in cases {
+        assert_checked(&rt, alloc, WORDS, (text, &[]), PLENTY, (3, line))?;
     }
     Ok(())
 }
 
+/// The words of a run are refused, and nothing is read: the source fails at its first call.
 #[test]
 fn a_run_is_no_check(rt: HostRuntime) -> Result<(), Fail> {
-    let alloc = rt.alloc();
-    let left = checked(alloc, &["-i", "a"], Given::failing(alloc), 1000)?;
-    assert_eq!(rt; left.status, Status::Usage { at: 1 });
-    assert_eq!(rt; left.out.taken(), "dakota: usage: word 1\n".as_bytes());
+    let told = (2, "dakota: usage: word 1\n");
+    assert_checked(&rt, rt.alloc(), &["-i", "a"], (b"", &[1]), PLENTY, told)?;
     Ok(())
 }
 
@@ -115,15 +92,11 @@ fn a_run_is_no_check(rt: HostRuntime) -> Result<(), Fail> {
 #[test]
 fn faults_of_the_outside_are_told(rt: HostRuntime) -> Result<(), Fail> {
     let alloc = rt.alloc();
-    let words = ["-check", "-i", "a"];
-    let left = checked(alloc, &words, Given::failing(alloc), 1000)?;
-    assert_eq!(rt; left.status, Status::SourceFault);
-    assert_eq!(rt; left.out.taken(), "dakota: study not readable\n".as_bytes());
-    let left = checked(alloc, &words, given(alloc, GRID)?, 10)?;
-    assert_eq!(rt; left.status, Status::SinkFault(Which::Out));
-    assert_eq!(rt; left.out.taken(), "study acce".as_bytes());
-    let left = checked(alloc, &words, given(alloc, REPEATED)?, 10)?;
-    assert_eq!(rt; left.status, refused(StudyKind::Repeated, 59, 69));
-    assert_eq!(rt; left.out.taken(), "dakota: st".as_bytes());
+    let grid = GRID.as_bytes();
+    let unreadable = (4, "dakota: study not readable\n");
+    assert_checked(&rt, alloc, WORDS, (grid, &[1]), PLENTY, unreadable)?;
+    assert_checked(&rt, alloc, WORDS, (grid, &[]), 10, (9, "study acce"))?;
+    let repeated = REPEATED.as_bytes();
+    assert_checked(&rt, alloc, WORDS, (repeated, &[]), 10, (3, "dakota: st"))?;
     Ok(())
 }

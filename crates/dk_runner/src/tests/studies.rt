@@ -1,19 +1,12 @@
 // Whole runs of the four parameter studies.
-use super::fakes::Given;
-use super::run;
-use super::texts::edited;
-use crate::Status;
-use crate::rows::RowPool;
-use dk_num::Dec;
-use dk_types::Rows;
+use super::texts::METHOD;
+use super::{assert_told, run_anew};
 use std::alloc::Global;
 use std::process::Abort;
 use std::test::Fail;
 
-/// The edits of the base study, how a run of it ends, its table and its summary.
-type Case<'a> = (&'a [(&'a str, &'a str)], Status, &'a str, &'a str);
-
-const METHOD: &str = "vector_parameter_study\n    num_steps = 2\n    step_vector = 0.5 0.5";
+/// The edits of the base study, the exit status of a run of it, its table and its summary.
+type Case<'a> = (&'a [(&'a str, &'a str)], u8, &'a str, &'a str);
 
 const CENTERED: &str = "%eval_id interface x1 x2 obj_fn
 1 NO_ID 0 0 1
@@ -30,12 +23,12 @@ const AT_THE_CENTRE: &str = "<<<<< Study finished: complete
 <<<<< Best objective function: obj_fn = 1
 ";
 
-const LISTED: &str = "%eval_id interface x1 x2 obj_fn
+pub const LISTED: &str = "%eval_id interface x1 x2 obj_fn
 1 NO_ID 0.1 0 0.82
 2 NO_ID 0.1 0 0.82
 ";
 
-const LISTED_TWICE: &str = "<<<<< Study finished: complete
+pub const LISTED_TWICE: &str = "<<<<< Study finished: complete
 <<<<< Function evaluation summary: 2 total (1 new, 1 duplicate)
 <<<<< Best evaluation: 1
 <<<<< Best parameters: x1 = 0.1, x2 = 0
@@ -46,14 +39,14 @@ const FIRST_OF_A_WAY: &str = "%eval_id interface x1 x2 obj_fn
 1 NO_ID 0 0 1
 ";
 
-const RECOVERED: &str = "%eval_id interface x1 x2 obj_fn
+pub const RECOVERED: &str = "%eval_id interface x1 x2 obj_fn
 1 NO_ID 0 0 1
 2 NO_ID 0.3333333333333333333333333333 0.3333333333333333333333333333 7
 3 NO_ID 0.6666666666666666666666666667 0.6666666666666666666666666667 7
 4 NO_ID 1 1 0
 ";
 
-const RECOVERED_ON_THE_WAY: &str = "<<<<< Study finished: complete
+pub const RECOVERED_ON_THE_WAY: &str = "<<<<< Study finished: complete
 <<<<< Function evaluation summary: 4 total (4 new, 0 duplicate)
 <<<<< Best evaluation: 4
 <<<<< Best parameters: x1 = 1, x2 = 1
@@ -67,10 +60,10 @@ const TRIED_THRICE: &str = "<<<<< Study aborted: evaluation 2 failed, attempts 3
 <<<<< Best objective function: obj_fn = 1
 ";
 
-const NO_ROWS: &str = "%eval_id interface x1 x2 obj_fn
+pub const NO_ROWS: &str = "%eval_id interface x1 x2 obj_fn
 ";
 
-const STOPPED_AT_ONCE: &str = "<<<<< Study aborted: evaluation 1 failed, attempts 1
+pub const STOPPED_AT_ONCE: &str = "<<<<< Study aborted: evaluation 1 failed, attempts 1
 <<<<< Function evaluation summary: 0 total (0 new, 0 duplicate)
 ";
 
@@ -83,12 +76,8 @@ const STOPPED_ON_THE_WAY: &str = "<<<<< Study aborted: evaluation 2 failed, atte
 
 /// Each of these studies comes to its status, its table and its summary.
 fn assert_cases(rt: &impl Abort, alloc: Global, cases: &[Case]) -> Result<(), Fail> {
-    for (edits, status, rows, told) in cases {
-        let text = edited(alloc, edits)?;
-        let left = run(alloc, &["-i", "s1.in"], Given::of(text), 1000)?;
-        assert_eq!(rt; left.status, *status, "{told}");
-        assert_eq!(rt; left.table.taken(), rows.as_bytes(), "{told}");
-        assert_eq!(rt; left.out.taken(), told.as_bytes(), "{told}");
+    for (edits, code, rows, told) in cases {
+        assert_told(rt, &run_anew(alloc, edits)?, *code, rows, told);
     }
     Ok(())
 }
@@ -100,19 +89,9 @@ fn each_study_has_its_rows(rt: HostRuntime) -> Result<(), Fail> {
     let list = "list_parameter_study list_of_points = 0.10 0 1e-1 0";
     let way = "vector_parameter_study num_steps = 3 final_point = 1 1";
     let cases: [Case; 3] = [
-        (
-            &[(METHOD, centered)],
-            Status::Finished,
-            CENTERED,
-            AT_THE_CENTRE,
-        ),
-        (&[(METHOD, list)], Status::Finished, LISTED, LISTED_TWICE),
-        (
-            &[(METHOD, way)],
-            Status::Aborted,
-            FIRST_OF_A_WAY,
-            STOPPED_ON_THE_WAY,
-        ),
+        (&[(METHOD, centered)], 0, CENTERED, AT_THE_CENTRE),
+        (&[(METHOD, list)], 0, LISTED, LISTED_TWICE),
+        (&[(METHOD, way)], 1, FIRST_OF_A_WAY, STOPPED_ON_THE_WAY),
     ];
     assert_cases(&rt, rt.alloc(), &cases)
 }
@@ -131,18 +110,13 @@ fn each_rule_has_its_rows(rt: HostRuntime) -> Result<(), Fail> {
     let cases: [Case; 4] = [
         (
             &[(METHOD, way), recover],
-            Status::Finished,
+            0,
             RECOVERED,
             RECOVERED_ON_THE_WAY,
         ),
-        (
-            &[one_step, thirds, retry],
-            Status::Aborted,
-            FIRST_OF_A_WAY,
-            TRIED_THRICE,
-        ),
-        (&[dead], Status::Aborted, NO_ROWS, STOPPED_AT_ONCE),
-        (&[no_table, dead], Status::Aborted, "", STOPPED_AT_ONCE),
+        (&[one_step, thirds, retry], 1, FIRST_OF_A_WAY, TRIED_THRICE),
+        (&[dead], 1, NO_ROWS, STOPPED_AT_ONCE),
+        (&[no_table, dead], 1, "", STOPPED_AT_ONCE),
     ];
     assert_cases(&rt, rt.alloc(), &cases)
 }
@@ -171,25 +145,10 @@ fn a_grid_has_a_row_for_each_choice(rt: HostRuntime) -> Result<(), Fail> {
         ),
         ("objective_functions", "response_functions"),
     ];
-    let text = edited(alloc, &edits)?;
-    let left = run(alloc, &["-i", "grid.in"], Given::of(text), 4000)?;
-    assert_eq!(rt; left.status, Status::Finished);
+    let left = run_anew(alloc, &edits)?;
+    assert_eq!(rt; left.status.code(), 0);
     assert!(rt; left.table.taken().starts_with(FIRST_ROWS.as_bytes()));
     assert!(rt; left.table.taken().ends_with(LAST_ROW.as_bytes()));
     assert_eq!(rt; left.out.taken(), GRID_TOLD.as_bytes());
-    Ok(())
-}
-
-/// Rows are read by their numbers, and a point is found where it first stood.
-#[test]
-fn rows_are_read_by_number(rt: HostRuntime) -> Result<(), Fail> {
-    let alloc = rt.alloc();
-    let mut rows = RowPool::reserve(alloc, 2, 1, 1)?;
-    rows.push(&[Dec::whole(5)], &[Dec::whole(6)], 1);
-    rows.push(&[Dec::whole(5)], &[Dec::whole(7)], 1);
-    assert_eq!(rt; rows.count(), 2);
-    assert_eq!(rt; rows.point(2), [Dec::whole(5)].as_slice());
-    assert_eq!(rt; rows.values(2), [Dec::whole(7)].as_slice());
-    assert_eq!(rt; rows.first(2), 1);
     Ok(())
 }

@@ -22,6 +22,20 @@ responses
   no_hessians
 ";
 
+/// The lines of its method.
+pub const METHOD: &str = "vector_parameter_study
+    num_steps = 2
+    step_vector = 0.5 0.5";
+
+/// The words of the command line.
+pub fn words_of(alloc: Global, words: &[&str]) -> Result<Vec<String>, AllocError> {
+    let mut texts = Vec::new(alloc);
+    for word in words {
+        texts.push(String::from_str(alloc, word)?)?;
+    }
+    Ok(texts)
+}
+
 /// The base study's text in which the first place of each of these words has others.
 pub fn edited(alloc: Global, edits: &[(&str, &str)]) -> Result<Vec<u8>, AllocError> {
     let mut text = String::from_str(alloc, BASE)?;

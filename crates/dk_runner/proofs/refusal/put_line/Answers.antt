@@ -17,3 +17,12 @@ returns-in-SinkFault g c = same_bytes (ap line (sym c.in-SinkFault.is)) c.put_un
 
 pub returns-in-NoMemory : goal.returns-in-NoMemory
 returns-in-NoMemory g c = same_bytes (ap line (sym c.in-NoMemory.is)) c.put-in-NoMemory.ensures
+
+pub returns-in-RestartRefused : goal.returns-in-RestartRefused
+returns-in-RestartRefused g c = same_bytes (ap line (sym c.in-RestartRefused.is)) c.put_unopened.ensures
+
+pub returns-in-DiskFault : goal.returns-in-DiskFault
+returns-in-DiskFault g c = same_bytes (ap line (sym c.in-DiskFault.is)) c.put-in-DiskFault.ensures
+
+pub returns-in-RestartFull : goal.returns-in-RestartFull
+returns-in-RestartFull g c = same_bytes (ap line (sym c.in-RestartFull.is)) c.put_full.ensures

@@ -1,0 +1,9 @@
+pub mod Pooled
+pub mod Reaching
+pub mod Appends
+pub mod Settling
+pub mod SoFar
+pub mod Evaluations
+pub mod Running
+pub mod AsChild
+pub mod Waiting

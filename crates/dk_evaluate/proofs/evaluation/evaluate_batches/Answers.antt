@@ -1,0 +1,19 @@
+use Rattle.std.proofs.Common.{◌≡◌, ◌∙◌, refl, sym, ap}
+use Rattle.dk_types.specs.declared.study.Study.{Study}
+use Rattle.dk_types.specs.Planned.{plan}
+use Rattle.dk_evaluate.proofs.Evaluations.{batch_is, end_is, fewer_left}
+use Rattle.dk_evaluate.proofs.Running.{runs_over}
+use Rattle.dk_evaluate.proofs.evaluation.evaluate_batches.Goals as goal
+
+pub returns-in-Finished-clause-ends : goal.returns-in-Finished-clause-ends
+returns-in-Finished-clause-ends g c = λ start before was.
+    let rows = c.loop-why.run.table.rows.rows in
+    let planned : plan c.args.study.now rows ≡ c.next.result = sym (c.next.ensures.plan ∙ ap (λ (s : Study). plan s rows) c.loop-why.invariant.under_way.study_is) in
+    runs_over c.args.study.now (g.E.Evaluator.child c.args.evaluator.now) start before c.loop-why.run.ledger.book c.loop-why.run.ledger.journal rows c.in-Finished.why (c.loop-why.invariant.runs start before was)
+    (end_is c.args.study.now rows c.in-Finished.why (planned ∙ c.in-Finished.is))
+
+pub loop-why-smaller : goal.loop-why-smaller
+loop-why-smaller g c =
+    let rows = c.loop-why.run.table.rows.rows in
+    let planned : plan c.args.study.now rows ≡ c.next.result = sym (c.next.ensures.plan ∙ ap (λ (s : Study). plan s rows) c.loop-why.invariant.under_way.study_is) in
+    fewer_left c.args.study.now rows c.evaluate_batch.new.run.table.rows.rows (batch_is c.args.study.now rows c.in-Batch.first c.in-Batch.count (planned ∙ c.in-Batch.is)).left (c.in_default.ensures.answers refl)

@@ -1,0 +1,5 @@
+pub mod Keeping
+pub mod Pools
+pub mod Evaluated
+pub mod Turns
+pub mod Laws

@@ -1,0 +1,260 @@
+// The evaluation of a study, one point after another, over a book and the journal that keeps its attempts.
+ghost use Rattle.std.specs.Prelude.{◌≡◌, ◌+◌, ◌<◌, ◌≤◌, List, [], length, IfOk, None, true};
+ghost use Rattle.dk_types.specs.declared.entry.Entry.{Entry};
+ghost use Rattle.dk_types.specs.Planned.{rest, next, At, AnswersBatch};
+ghost use Rattle.dk_types.specs.Sound.{IsSound};
+ghost use Rattle.dk_types.specs.Points.{has_points};
+ghost use Rattle.dk_report.specs.Widths.{HaveWidths};
+ghost use Rattle.dk_journal.specs.Journals.{JournalState};
+ghost use Rattle.dk_evaluate.specs.Keeping.{Keeps};
+ghost use Rattle.dk_evaluate.specs.Evaluated.{IsOpen, Runs, TakesNumber};
+ghost use Rattle.dk_evaluate.specs.Turns.{IsSoFar, IsPrepared, EndsSo, EndsRun, GetsRow};
+
+use crate::evaluator::Evaluator;
+use crate::ledger::Ledger;
+use crate::rows::RowPool;
+use crate::settle::{Settled, settle};
+use dk_book::{Book, CardId};
+use dk_journal::AppendFault;
+use dk_method::{Planning, plan_of};
+use dk_num::Dec;
+use dk_outside::Disk;
+use dk_types::{Ending, Plan, Planner, Rows, Study};
+use std::alloc::{AllocError, Global};
+
+/// How an evaluation ended.
+#[derive(Clone, Copy, Debug)]
+pub enum Verdict {
+    /// The study was decided.
+    Decided(Ending),
+    /// An attempt wasn't appended to the journal, and the study waits for it.
+    Stopped(AppendFault),
+}
+
+/// An evaluation that ended: the attempts that were made, the rows, and how it ended.
+#[derive(Drop)]
+pub struct Ran<K: Disk> {
+    pub ledger: Ledger<K>,
+    pub rows: RowPool,
+    pub verdict: Verdict,
+}
+
+/// An evaluation under way: the attempts that were made, the rows so far, for each card the number of the first row
+/// with its point (0 where there is none), and room for a point and for its values.
+#[derive(Drop)]
+struct Evaluation<K: Disk> {
+    ledger: Ledger<K>,
+    table: Table,
+}
+
+/// The rows so far, for each card the number of the first row with its point, and room for a point and its values.
+#[derive(Drop)]
+struct Table {
+    rows: RowPool,
+    firsts: Vec<u32>,
+    point: Vec<Dec>,
+    values: Vec<Dec>,
+}
+
+/// All memory that an evaluation takes besides its ledger: the plan of the study, and room for its rows.
+#[derive(Drop)]
+pub struct Prepared {
+    planning: Planning,
+    table: Table,
+}
+
+/// Takes the memory for the evaluation of a study over what is known of attempts.
+pub fn prepare<K: Disk>(
+    alloc: Global,
+    study: &Study,
+    ledger: &Ledger<K>,
+) -> Result<Prepared, AllocError>
+    requires sound { IsSound study.now }
+    requires points { has_points study.now.method ≡ true }
+    requires variables { ledger.now.book.variables ≡ length study.now.variables.labels }
+    requires responses { ledger.now.book.responses ≡ length study.now.responses.labels }
+    requires spare { study.now.limit ≤ ledger.now.book.spare }
+    requires room { study.now.limit ≤ ledger.now.book.room }
+    ensures { IfOk result (λ prepared. IsPrepared study.now ledger.now.book prepared) }
+{
+    let variables = study.variables.labels.items().len();
+    let responses = study.responses.labels.items().len();
+    let limit = study.limit as usize;
+    Ok(Prepared {
+        planning: plan_of(alloc, study)?,
+        table: Table {
+            rows: RowPool::reserve(alloc, limit, variables, responses)?,
+            firsts: vec![in alloc; 0; places(&ledger.book)]?,
+            point: vec![in alloc; Dec::whole(0); variables]?,
+            values: vec![in alloc; Dec::whole(0); responses]?,
+        },
+    })
+}
+
+/// How many cards a book can have, with those that it has.
+fn places(book: &Book) -> usize
+    ensures { result ≡ length book.now.cards + book.now.spare }
+{
+    book.count() + book.spare()
+}
+
+/// Evaluates the points of a study, one after another, up to the first that has no values under the study's rule. Each
+/// attempt that isn't known is made, and appended to the journal before it counts; one that is known isn't made again.
+pub fn evaluate<K: Disk, E: Evaluator>(
+    study: &Study,
+    evaluator: &E,
+    ledger: Ledger<K>,
+    prepared: Prepared,
+) -> Ran<K>
+    requires sound { IsSound study.now }
+    requires points { has_points study.now.method ≡ true }
+    requires responses { E.responses evaluator.now ≡ length study.now.responses.labels }
+    requires opened { IsOpen study.now ledger.book ledger.journal }
+    requires prepared { IsPrepared study.now ledger.book prepared }
+    ensures ends { (before : List Entry) → Keeps ledger.book ledger.journal before →
+        EndsRun study.now (E.child evaluator.now) ledger.journal before result.ledger.book result.ledger.journal result.rows.rows result.verdict }
+    ensures widths { HaveWidths study.now result.rows.rows }
+    ensures variables { result.ledger.book.variables ≡ length study.now.variables.labels }
+    ensures responses { result.ledger.book.responses ≡ length study.now.responses.labels }
+{
+    let Prepared {
+        mut planning,
+        table,
+    } = prepared;
+    let mut run = Evaluation { ledger, table };
+    let verdict = evaluate_batches(evaluator, &mut planning, study, &mut run);
+    Ran {
+        ledger: run.ledger,
+        rows: run.table.rows,
+        verdict,
+    }
+}
+
+/// Evaluates one batch of points after another, up to the end, and adds their rows.
+fn evaluate_batches<K: Disk, E: Evaluator>(
+    evaluator: &E,
+    planning: &mut Planning,
+    study: &Study,
+    run: &mut Evaluation<K>,
+) -> Verdict
+    requires sound { IsSound study.now }
+    requires points { has_points study.now.method ≡ true }
+    requires responses { E.responses evaluator.now ≡ length study.now.responses.labels }
+    requires planned { planning.old ≡ record { study = study.now; before = 0; count = 0 } }
+    requires opened { IsOpen study.now run.old.ledger.book run.old.ledger.journal }
+    requires so_far { IsSoFar study.now run.old.ledger.book run.old.table }
+    requires none { run.old.table.rows.rows ≡ [] }
+    ensures ends { (start : JournalState) (before : List Entry) → Runs study.now (E.child evaluator.now) start before run.old.ledger.book run.old.ledger.journal run.old.table.rows.rows →
+        EndsRun study.now (E.child evaluator.now) start before run.new.ledger.book run.new.ledger.journal run.new.table.rows.rows result }
+    ensures widths { HaveWidths study.now run.new.table.rows.rows }
+    ensures variables { run.new.ledger.book.variables ≡ length study.now.variables.labels }
+    ensures responses { run.new.ledger.book.responses ≡ length study.now.responses.labels }
+{
+    loop {
+        match planning.next(&run.table.rows) {
+            Plan::Finished(why) => return Verdict::Decided(Ending::Finished(why)),
+            Plan::Batch { first, count } => {
+                if let Some(verdict) = evaluate_batch(
+                    evaluator, planning, study, first, count, run,
+                ) {
+                    return verdict;
+                }
+            }
+        }
+    }
+}
+
+/// Evaluates the points of a batch up to the first that has no values, and adds their rows.
+fn evaluate_batch<K: Disk, E: Evaluator, P: Planner>(
+    evaluator: &E,
+    planner: &P,
+    study: &Study,
+    first: u32,
+    count: u32,
+    run: &mut Evaluation<K>,
+) -> Option<Verdict>
+    requires sound { IsSound study.now }
+    requires responses { E.responses evaluator.now ≡ length study.now.responses.labels }
+    requires opened { IsOpen study.now run.old.ledger.book run.old.ledger.journal }
+    requires so_far { IsSoFar study.now run.old.ledger.book run.old.table }
+    requires study { P.study planner.now ≡ study.now }
+    requires before { P.before planner.now ≡ length run.old.table.rows.rows }
+    requires batch { P.batch planner.now ≡ rest study.now run.old.table.rows.rows }
+    requires first { first ≡ length run.old.table.rows.rows + 1 }
+    requires count { count ≡ length (rest study.now run.old.table.rows.rows) }
+    ensures ends { (start : JournalState) (before : List Entry) → Runs study.now (E.child evaluator.now) start before run.old.ledger.book run.old.ledger.journal run.old.table.rows.rows →
+        EndsSo study.now (E.child evaluator.now) start before run.new.ledger.book run.new.ledger.journal run.new.table.rows.rows result }
+    ensures answers { result ≡ None → AnswersBatch run.old.table.rows.rows (rest study.now run.old.table.rows.rows) run.new.table.rows.rows }
+    ensures opened { result ≡ None → IsOpen study.now run.new.ledger.book run.new.ledger.journal }
+    ensures so_far { result ≡ None → IsSoFar study.now run.new.ledger.book run.new.table }
+    ensures widths { HaveWidths study.now run.new.table.rows.rows }
+    ensures variables { run.new.ledger.book.variables ≡ length study.now.variables.labels }
+    ensures responses { run.new.ledger.book.responses ≡ length study.now.responses.labels }
+{
+    for row in first..first + count {
+        planner.point(row, &mut run.table.point);
+        if let Some(verdict) = evaluate_point(evaluator, study, run) {
+            return Some(verdict);
+        }
+    }
+    None
+}
+
+/// Evaluates the point that was written, and adds its row; or tells how the evaluation ends with it.
+fn evaluate_point<K: Disk, E: Evaluator>(
+    evaluator: &E,
+    study: &Study,
+    run: &mut Evaluation<K>,
+) -> Option<Verdict>
+    requires sound { IsSound study.now }
+    requires responses { E.responses evaluator.now ≡ length study.now.responses.labels }
+    requires opened { IsOpen study.now run.old.ledger.book run.old.ledger.journal }
+    requires so_far { IsSoFar study.now run.old.ledger.book run.old.table }
+    requires left { length run.old.table.rows.rows < study.now.limit }
+    ensures ends { (start : JournalState) (before : List Entry) → Runs study.now (E.child evaluator.now) start before run.old.ledger.book run.old.ledger.journal run.old.table.rows.rows →
+        next study.now run.old.table.rows.rows ≡ At run.old.table.point.items →
+        EndsSo study.now (E.child evaluator.now) start before run.new.ledger.book run.new.ledger.journal run.new.table.rows.rows result }
+    ensures row { result ≡ None → GetsRow run.old.table.point.items run.old.table.rows.rows run.new.table.rows.rows }
+    ensures opened { result ≡ None → IsOpen study.now run.new.ledger.book run.new.ledger.journal }
+    ensures so_far { result ≡ None → IsSoFar study.now run.new.ledger.book run.new.table }
+    ensures widths { HaveWidths study.now run.new.table.rows.rows }
+    ensures variables { run.new.ledger.book.variables ≡ length study.now.variables.labels }
+    ensures responses { run.new.ledger.book.responses ≡ length study.now.responses.labels }
+{
+    let card = run.ledger.book.place(&run.table.point);
+    let number = run.table.rows.count() + 1;
+    let rule = &study.interface.rule;
+    match settle(
+        evaluator,
+        &mut run.ledger,
+        rule,
+        card,
+        &run.table.point,
+        &mut run.table.values,
+    ) {
+        Settled::Dead { attempts } => Some(Verdict::Decided(Ending::Aborted {
+            evaluation: number,
+            attempts,
+        })),
+        Settled::Stopped(fault) => Some(Verdict::Stopped(fault)),
+        Settled::Values => {
+            let first = first_row(&mut run.table.firsts, card, number);
+            run.table
+                .rows
+                .push(&run.table.point, &run.table.values, first);
+            None
+        }
+    }
+}
+
+/// The number of the first row with a card's point, which is this one where there was none.
+fn first_row(firsts: &mut [u32], card: CardId, number: u32) -> u32
+    requires { card.index < length firsts.old }
+    ensures { TakesNumber firsts.old firsts.new card.index number result }
+{
+    let first = &mut firsts[card.index as usize];
+    if *first == 0 {
+        *first = number;
+    }
+    *first
+}

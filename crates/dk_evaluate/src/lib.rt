@@ -1,0 +1,16 @@
+//! The evaluation of a study, one point after another, over a book of attempts and the journal that keeps them.
+#![tactic(auto)]
+
+pub mod evaluation;
+pub mod evaluator;
+pub mod laws;
+pub mod ledger;
+pub mod rows;
+mod settle;
+#[cfg(test)]
+mod tests;
+
+pub use evaluation::{Prepared, Ran, Verdict, evaluate, prepare};
+pub use evaluator::{Direct, Evaluator, Reading};
+pub use ledger::Ledger;
+pub use rows::RowPool;
