@@ -1,0 +1,5 @@
+use Rattle.dk_params.proofs.ReadBack.{each_point_is_read}
+use Rattle.dk_params.proofs.laws.each_point_is_read.Goals as goal
+
+pub returns : goal.returns
+returns c = each_point_is_read
