@@ -1,0 +1,7 @@
+mod Cuts
+mod Failures
+mod Fronts
+mod Labels
+mod Numbers
+mod Readings
+mod Walks

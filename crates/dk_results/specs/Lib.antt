@@ -1,0 +1,5 @@
+pub mod Pieces
+pub mod Results
+pub mod Grammar
+pub mod Fronts
+pub mod Worked
