@@ -4,13 +4,18 @@
     compare.py PROGRAM REFERENCE [--cases N] [--seed S] [--jobs J] [--keep FOLDER]
     compare.py --alone REFERENCE [--cases N] [--seed S] [--jobs J]
 
-Each study is checked, and run where it is accepted; some of the others are run too. Each such command runs in two scratch
-folders that begin alike. Compared are standard output, the exit status, and the files that are in the folder then, byte
-for byte. Nothing may come on standard error, and no file may be made or changed by a check, or where the status is 2, 3
-or 4. With --keep, the folders of a case that differs are kept there, with a file `words`. With --alone, only the reference
-runs. At the end it is told how many cases had each status and each kind of refusal, and how often each method ended how under
-which rule for failures; under `recover` also whether none, some or all of the points failed. A study that is accepted and
-doesn't run so far counts as `not run`. The exit status is 1 where a case differs.
+Each study is checked, and run where it is accepted; some of the others are run too. Many runs name their restart file, by
+-w or -r, and many begin with a file there: one that holds some or all of the study's attempts, or others, whole, cut or
+spoiled, one of another study, an empty one, or one that is no restart file. Each command runs in two scratch folders that
+begin alike. Compared are standard output, the exit status, and the files that are in the folder then, restart files
+and older ones among them, byte for byte. Nothing may come on standard error, and no file may be made or changed by a check,
+or where the status is 2 to 6. With --keep, the folders of a case that differs are kept there, with a file `words`. With
+--alone, only the reference runs. Scratch folders are made under TMPDIR; in a folder in memory a run takes less time.
+
+At the end it is told how many cases had each status and each kind of refusal, and how often each method ended how under
+which rule for failures; under `recover` also whether none, some or all of the points failed; and how runs over a restart
+file that was there ended. A study that is accepted and doesn't run so far counts as `not run`. The exit status is 1 where a
+case differs.
 """
 import argparse
 import collections
@@ -23,20 +28,50 @@ import subprocess
 import sys
 import tempfile
 
-from dakota import points_of
+from contents import content_of
+from dakota import evaluate, is_evaluated, points_of
 from decimals import decimal_of, rosenbrock
 from form_texts import form_text
+from restart import Shape, file_bytes, shape_of
+from restart_file import Journal
 from run_texts import run_text
-from study import read_study
+from study import Refused, read_study
 from study_texts import whole_study_text
 
 SECONDS = 120
 STUDY_NAMES = [b"s.in", b"s.in", b"s.in", b"a b.in", "größe.in".encode(), b"'t.dat'", b"new\nline", b"sub/s.in", b"./s.in", b"t.dat"]
 NO_STUDIES = [b"none", b"sub", b"sub/none", b"s.in/x", b".", b" ", b"n" * 300, b"\xc3\xa9.in"]
+RESTART_NAMES = [b"dakota.rst"] * 4 + [b"x.rst"] * 4 + [b"sub/x.rst", "größe.rst".encode(), b"a b", b"t.dat", b"./t.dat"]
+NO_RESTARTS = [b"sub", b"none/x.rst", b"sub/", b".", b"s.in", b"./s.in", b"n" * 300, b"n" * 253, b"t.dat/x"]
+READ_OPTIONS = (b"-r", b"-read_restart")
+MOST_EVALUATIONS = 3000
 LONELY_WORDS = ([b"--help"], [b"--version"])
 
 
 # Cases
+
+
+def shape_and_entries(text):
+    """The labels of a study, and the attempts that it makes; those of another one where it isn't evaluated."""
+    journal = Journal()
+    try:
+        study = read_study(text)
+    except Refused:
+        return Shape(["x1", "x2"], ["obj_fn"]), []
+    if is_evaluated(study) and study.limit <= MOST_EVALUATIONS:
+        evaluate(study, journal)
+    return shape_of(study), journal.book.entries
+
+
+def restart_content(random, text):
+    """The bytes of a restart file for a study."""
+    shape, entries = shape_and_entries(text)
+    if len(shape.variables) > 10:
+        return file_bytes(shape, [])
+    if random.random() < 0.05:
+        shape = Shape(["x1", "x2"], ["obj_fn"])
+    content, _ = content_of(random, shape, entries)
+    return content
 
 
 class Case:
@@ -60,6 +95,24 @@ class Case:
         older = random.choice([b"t.dat", b"t.dat", b"dakota_tabular.dat", b"a b.dat"])
         if random.random() < 0.2 and older not in self.folders:
             self.files.setdefault(older, random.choice([b"", b"before\n", b"x" * 100000]))
+        self.is_resumed = False
+        if self.run and random.random() < 0.6:
+            self.name_restart(random)
+
+    def name_restart(self, random):
+        """Has a run name its restart file, mostly, and lays one there."""
+        name = random.choice(RESTART_NAMES if random.random() < 0.9 else NO_RESTARTS)
+        is_read = random.random() < 0.6
+        options = READ_OPTIONS if is_read else (b"-w", b"-write_restart")
+        if is_read or name != b"dakota.rst" or random.random() < 0.3:
+            restart = [random.choice(options), name]
+            self.run = random.choice([self.run + restart, restart + self.run])
+        if name not in NO_RESTARTS and os.path.normpath(name) not in self.folders and random.random() < (0.9 if is_read else 0.5):
+            self.files.setdefault(name, restart_content(random, self.text))
+            self.is_resumed = is_read
+        for end in (b".old", b".old2", b".old3"):
+            if random.random() < 0.15 and name not in NO_RESTARTS:
+                self.files[name + end] = b"kept"
 
     @staticmethod
     def right_words(random, name):
@@ -183,7 +236,7 @@ def faults(words, ours, theirs):
             one, other = after.get(name) or b"", their_after.get(name) or b""
             at = next((it for it, (a, b) in enumerate(zip(one, other)) if a != b), min(len(one), len(other)))
             wrong.append(f"file {name}: from byte {at} {shown(one[at:at + 80])}, and {shown(other[at:at + 80])} by the reference")
-    if (status in (2, 3, 4) or b"-check" in words) and after != before:
+    if (status in range(2, 7) or b"-check" in words) and after != before:
         wrong.append(f"files changed under status {status}")
     if errors or their_errors:
         wrong.append(f"standard error {shown(errors)}, and {shown(their_errors)} by the reference")
@@ -203,6 +256,9 @@ def kinds_of(said, case):
         yield "not run" if refused.groups() == (b"Unsupported", b"0..0") else refused[1].decode()
     if said.startswith(b"study accepted"):
         yield "accepted"
+    restart = re.match(rb"dakota: restart refused: (\w+)", said)
+    if restart:
+        yield f"restart {restart[1].decode()}"
     ended = re.match(rb"<<<<< Study (finished|aborted).*\n.*, (\d+) duplicate", said)
     if ended:
         study = read_study(case.text)
@@ -211,6 +267,8 @@ def kinds_of(said, case):
         yield f"{name} {ended[1].decode()} under {rule}" + (f", {failures(study)} failed" if rule == "recover" else "")
         if ended[2] != b"0":
             yield f"{name} with duplicates"
+        if case.is_resumed and any(it in case.run for it in READ_OPTIONS):
+            yield f"resumed and {ended[1].decode()}"
 
 
 def compared(case, words, folders, arguments):

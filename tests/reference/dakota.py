@@ -1,10 +1,13 @@
 #!/usr/bin/env python3
-"""A second reading of the rules, for comparison with the proved program: the same command line, table and summary."""
+"""A second reading of the rules, for comparison with the proved program: the same command line, restart file, table and
+summary."""
 import itertools
 import os
 import sys
 
 from decimals import decimal_of, is_less, rosenbrock, text_of
+from restart import Entry, Full, RestartRefused, shape_of
+from restart_file import FileJournal, is_same_file, older_files, opened
 from study import TEXT_LIMIT, Refused, read_study
 
 # The points of a study, each as a list of whole numbers of its unit
@@ -74,37 +77,34 @@ def is_evaluated(study):
     return study.method.name != "compass_search" and study.interface.is_direct
 
 
-def attempts_of(point, most):
-    """The value of a point by the first of at most so many attempts that has one, or none; and how many were made."""
-    for attempt in range(1, most + 1):
+def said_of(point, attempt, journal):
+    """What an attempt said of a point. It is made, and appended to the journal, where that doesn't have it."""
+    said = journal.book.said.get(point, [])
+    if attempt > len(said):
         value = rosenbrock(*point)
-        if value is not None:
-            return value, attempt
-    return None, most
+        journal.append(Entry(point, attempt, None if value is None else (value,)))
+    return journal.book.said[point][attempt - 1]
 
 
-def under_rule(point, rule, given):
-    """The value of a point under a rule for failures, or none; and how many attempts were made."""
-    if rule == "retry":
-        return attempts_of(point, 1 + given)
-    value, attempts = attempts_of(point, 1)
-    if value is None and rule == "recover":
-        [value] = given
-    return value, attempts
+def under_rule(point, rule, given, journal):
+    """The values of a point under a rule for failures, or none; and how many attempts were looked at."""
+    most = 1 + given if rule == "retry" else 1
+    for attempt in range(1, most + 1):
+        said = said_of(point, attempt, journal)
+        if said is not None:
+            return said, attempt
+    return tuple(given) if rule == "recover" else None, most
 
 
-def evaluate(study):
-    """The rows (x1, x2, value) up to the first point without a value, and how many attempts it had; none where each has a value.
-
-    A point that stood before is evaluated anew: its attempts give the same again.
-    """
+def evaluate(study, journal):
+    """The rows (x1, x2, value) up to the first point without values, and how many attempts it had; none where each has some."""
     rows = []
     for units in points_of(study):
-        point = [decimal_of(it, study.unit) for it in units]
-        value, attempts = under_rule(point, *study.interface.rule)
-        if value is None:
+        point = tuple(decimal_of(it, study.unit) for it in units)
+        values, attempts = under_rule(point, *study.interface.rule, journal)
+        if values is None:
             return rows, attempts
-        rows.append((*point, value))
+        rows.append((*point, *values))
     return rows, None
 
 
@@ -168,18 +168,18 @@ APART = {"read", "write", "check"}
 
 
 def read_words(words):
-    """The study's file, and whether it is only checked."""
+    """The files by their options, and whether the study is only checked."""
     try:
         words = [os.fsencode(it).decode() for it in words]
     except UnicodeDecodeError:
         raise Misused(1) from None
-    files, places, rest = {}, {}, list(enumerate(words, 1))
+    files, found, rest = {}, set(), list(enumerate(words, 1))
     while rest:
         place, word = rest.pop(0)
         option = OPTIONS.get(word)
-        if option is None or option in places or (option in APART and APART & set(places)):
+        if option is None or option in found or (option in APART and APART & found):
             raise Misused(place)
-        places[option] = place
+        found.add(option)
         if option == "check":
             continue
         if not rest:
@@ -189,52 +189,67 @@ def read_words(words):
             raise Misused(place)
     if "input" not in files:
         raise Misused(len(words) + 1)
-    for option in ("read", "write"):
-        # A run has no restart file so far.
-        if option in places:
-            raise Misused(places[option])
-    return files["input"], "check" in places
+    return files, "check" in found
 
 
 def refusal(kind, start=0, end=0):
     return f"dakota: study refused: {kind} at bytes {start}..{end}\n", 3
 
 
-def write_table(name, study_name, text):
-    """Writes the table's file, but not in the study's place."""
-    if os.path.exists(name) and os.path.samefile(name, study_name):
-        raise OSError("the table's file is the study's")
+def write_table(name, others, text):
+    """Writes the table's file, but not in the place of one of the others."""
+    if any(is_same_file(it, name) for it in others):
+        raise OSError("the table's file is another's")
     with open(name, "wb") as it:
         it.write(text.encode())
+
+
+def read_text(name):
+    """The study of a file, or the line of what is wrong with it and the status."""
+    try:
+        with open(name, "rb") as it:
+            return read_study(it.read(TEXT_LIMIT + 1)), None
+    except (OSError, ValueError):
+        return None, ("dakota: study not readable\n", 4)
+    except Refused as refused:
+        return None, refusal(*refused.fault)
+
+
+def run_study(study, name, restart, is_fresh):
+    """Evaluates a study over its restart file, and writes its table."""
+    try:
+        with opened(restart, is_fresh, name) as file:
+            rows, attempts = evaluate(study, FileJournal(file, shape_of(study), is_fresh))
+    except RestartRefused as refused:
+        return f"dakota: restart refused: {refused}\n", 5
+    except OSError:
+        return "dakota: restart file failed\n", 6
+    except Full as full:
+        return f"dakota: restart file full (length {full})\n", 7
+    try:
+        if study.table is not None:
+            write_table(study.table.decode(), (name, restart, *older_files(restart)), table(study, rows))
+    except OSError:
+        return "dakota: table not written\n", 9
+    return summary(study, rows, attempts), 0 if attempts is None else 1
 
 
 def run(words):
     """The text for standard output, and the exit status."""
     try:
-        name, is_check = read_words(words)
+        files, is_check = read_words(words)
     except Misused as fault:
         return f"dakota: usage: word {fault.place}\n", 2
-    try:
-        with open(name, "rb") as it:
-            text = it.read(TEXT_LIMIT + 1)
-    except (OSError, ValueError):
-        return "dakota: study not readable\n", 4
-    try:
-        study = read_study(text)
-    except Refused as refused:
-        return refusal(*refused.fault)
+    study, refused = read_text(files["input"])
+    if refused:
+        return refused
     if is_check:
         counts = len(study.variables.labels), len(study.responses.labels), study.limit
         return "study accepted: variables {}, responses {}, evaluations at most {}\n".format(*counts), 0
     if not is_evaluated(study):
         return refusal("Unsupported")
-    rows, attempts = evaluate(study)
-    try:
-        if study.table is not None:
-            write_table(study.table, name, table(study, rows))
-    except OSError:
-        return "dakota: table not written\n", 9
-    return summary(study, rows, attempts), 0 if attempts is None else 1
+    restart = files.get("read") or files.get("write", "dakota.rst")
+    return run_study(study, files["input"], restart, "read" not in files)
 
 
 def main():

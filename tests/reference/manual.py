@@ -4,10 +4,13 @@ examples/, by the second reading and by the program: manual.py [PROGRAM].
 
 Each example is accepted by `-check` with the line that stands here. Each that runs so far ends with the table and the
 summary that stand beside it, NAME.table and NAME.summary, which were written by the second reading, and well but for one
-that is aborted; each other one is refused. PROGRAM is `dakota` of this project if left out, where that was built; else the
-second reading alone is checked.
+that is aborted; each other one is refused. longer.in is run by resume.sh, which ends with the line that stands here.
 
-It is no part of the gate.
+The program leaves a restart file of the size that stands here, and a run that goes on with it ends alike, leaves it as it
+is, and takes its values from it. What the manual says of copies, of a file that is cut and of its refusals is checked too.
+
+PROGRAM is `dakota` of this project if left out, where that was built; else the second reading alone is checked. It is no
+part of the gate.
 """
 import os
 import re
@@ -27,9 +30,21 @@ ACCEPTED = {
     "recover.in": (2, 1, 4),
     "retry.in": (2, 1, 2),
     "compass.in": (2, 1, 1000),
+    "longer.in": (2, 1, 10201),
 }
-RUN = ACCEPTED.keys() - {"compass.in"}
+# The bytes of the restart file of each example that is run.
+RUN = {
+    "vector.in": 27 + 3 * 60,
+    "list.in": 22 + 4 * 60,
+    "centered.in": 27 + 7 * 60,
+    "grid.in": 34 + 81 * 60,
+    "final.in": 27 + 11 * 60,
+    "recover.in": 27 + 2 * 60 + 2 * 42,
+    "retry.in": 27 + 60 + 3 * 42,
+}
 ABORTED = {"retry.in"}
+RESTART = "dakota.rst"
+RESUMED = b"resumed: the table, the summary and the restart file are those of the run that nobody stopped"
 
 
 def table():
@@ -62,9 +77,12 @@ def faults_of_manual():
             yield f"{word} isn't told as a word of output"
 
 
-def ran(program, *words):
-    """The status of a command, what it prints, and the bytes of the files that it makes."""
+def ran(program, *words, files=()):
+    """The status of a command, what it prints, and the bytes of the files that stand in its folder then. It begins with
+    these files in a folder of its own."""
     with tempfile.TemporaryDirectory() as folder:
+        for name, content in dict(files).items():
+            write(os.path.join(folder, name), content)
         done = subprocess.run([*program, *words], cwd=folder, stdin=subprocess.DEVNULL, stdout=subprocess.PIPE)
         return done.returncode, done.stdout, {it: read(os.path.join(folder, it)) for it in os.listdir(folder)}
 
@@ -72,6 +90,11 @@ def ran(program, *words):
 def read(path):
     with open(path, "rb") as it:
         return it.read()
+
+
+def write(path, content):
+    with open(path, "wb") as it:
+        it.write(content)
 
 
 def wanted_of(name):
@@ -84,20 +107,80 @@ def wanted_of(name):
 
 
 def faults_of_files():
-    wanted = {*ACCEPTED, *(it.replace(".in", end) for it in RUN for end in (".table", ".summary"))}
+    wanted = {"resume.sh", "drivers", *ACCEPTED, *(it.replace(".in", end) for it in RUN for end in (".table", ".summary"))}
     for name in sorted(wanted ^ {*os.listdir(EXAMPLES)}):
         yield f"examples/{name} isn't there" if name in wanted else f"examples/{name} has no line here"
 
 
+def told_apart(command, told, wanted):
+    """How what a command did differs from what it is to do: its status, what it prints, and its files."""
+    for part, one, other in zip(("status", "standard output", "files"), told, wanted):
+        if one != other:
+            yield f"{command}: {part} {one}, and not {other}"
+
+
 def faults_of_examples(program):
+    """Of examples that are checked and run, by the second reading or by the program. Their restart files are left out."""
     for name, counts in ACCEPTED.items():
         study = os.path.join(EXAMPLES, name)
         line = "study accepted: variables {}, responses {}, evaluations at most {}\n".format(*counts)
-        for words, wanted in ((["-check"], (0, line.encode(), {})), ([], wanted_of(name))):
-            told = ran(program, *words, "-i", study)
-            for part, one, other in zip(("status", "standard output", "files"), told, wanted):
-                if one != other:
-                    yield f"{' '.join([*program, *words])} -i {name}: {part} {one}, and not {other}"
+        yield from told_apart(f"{program} -check {name}", ran(program, "-check", "-i", study), (0, line.encode(), {}))
+        if name != "longer.in":
+            status, printed, files = ran(program, "-i", study)
+            files.pop(RESTART, None)
+            yield from told_apart(f"{program} {name}", (status, printed, files), wanted_of(name))
+
+
+def faults_of_restarts(program):
+    """Of the restart file that each example leaves, and of runs that go on with it."""
+    for name, size in RUN.items():
+        study = os.path.join(EXAMPLES, name)
+        status, printed, files = ran(program, "-i", study)
+        if len(files.get(RESTART, b"")) != size:
+            yield f"{name}: the restart file has {len(files.get(RESTART, b''))} bytes, and not {size}"
+            continue
+        resumed = ran(program, "-i", study, "-r", RESTART, files={RESTART: files[RESTART]})
+        yield from told_apart(f"{name} with -r", resumed, (status, printed, files))
+        again = ran(program, "-i", study, files=files)
+        yield from told_apart(f"{name} again", again, (status, printed, {**files, f"{RESTART}.old": files[RESTART]}))
+
+
+def faults_of_changed_files(program):
+    """Of runs of vector.in with restart files that are changed, cut, mended, or none of its own."""
+    study = os.path.join(EXAMPLES, "vector.in")
+    whole = ran(program, "-i", study)[2][RESTART]
+    other = ran(program, "-i", os.path.join(EXAMPLES, "grid.in"))[2][RESTART]
+    table = read(os.path.join(EXAMPLES, "vector.table"))
+    # The value 1 of the first record, as 3.
+    changed = whole[:68] + b"\3" + whole[69:]
+    cases = [
+        ("with another value", changed, changed, 0, table.replace(b" 0 0 1\n", b" 0 0 3\n")),
+        ("empty", b"", whole, 0, table),
+        ("with a zero byte at its front", b"\0" + 10 * b"\xff", whole, 0, table),
+        ("cut to its first record, and mended", whole[:86] + b"\0", whole, 0, table),
+        ("cut", whole[:100], b"Damaged (offset 86)", 5, None),
+        ("without its end", whole[:206], b"Damaged (offset 206)", 5, None),
+        ("cut in its labels", whole[:20], b"NotARestart", 5, None),
+        ("of another study", other, b"OtherShape", 5, None),
+        ("not there", None, b"dakota: restart file failed\n", 6, None),
+    ]
+    for what, before, after, status, left in cases:
+        files = {} if before is None else {RESTART: before}
+        told, printed, made = ran(program, "-i", study, "-r", RESTART, files=files)
+        if status == 0:
+            yield from told_apart(f"a restart file {what}", (told, made), (status, {RESTART: after, "t.dat": left}))
+        else:
+            line = after if status == 6 else b"dakota: restart refused: " + after + b"\n"
+            if (told, printed) != (status, line) or made != files:
+                yield f"a restart file {what}: status {told}, {printed}, or its files aren't as they were"
+
+
+def faults_of_script(program):
+    """Of the script that stops a run and goes on with it."""
+    script = os.path.join(EXAMPLES, "resume.sh")
+    done = subprocess.run([script, *program], stdin=subprocess.DEVNULL, stdout=subprocess.PIPE, stderr=subprocess.STDOUT)
+    if done.returncode != 0 or done.stdout.splitlines()[-1:] != [RESUMED]:
+        yield f"resume.sh: status {done.returncode}, {done.stdout.decode(errors='replace')}"
 
 
 def programs():
@@ -114,6 +197,8 @@ def main():
     faults = [*faults_of_manual(), *faults_of_files()]
     if not faults:
         faults = [fault for it in commands for fault in faults_of_examples(it)]
+        for check in (faults_of_restarts, faults_of_changed_files, faults_of_script):
+            faults += [fault for it in commands[1:] for fault in check(it)]
     for fault in faults:
         print(f"manual: {fault}")
     by = "by the program and the second reading" if len(commands) > 1 else "by the second reading alone"

@@ -1,0 +1,75 @@
+"""The studies that are killed and resumed: some by hand, of each kind and rule and size, and others by chance."""
+import random
+import re
+
+from dakota import evaluate, is_evaluated
+from restart_file import Journal
+from run_texts import run_text
+from study import Refused, read_study
+
+TEXT = """environment tabular_data tabular_data_file = 't.dat'
+method {method}
+variables continuous_design = 2 {variables} descriptors = 'x1' 'x2'
+interface analysis_drivers = 'rosenbrock' direct {rule}
+responses {responses} = 1 no_gradients no_hessians
+"""
+
+# The method, the keywords of `variables`, the rule for failures.
+ROWS = [
+    ("vector_parameter_study num_steps = 2 step_vector = 0.5 0.5", "initial_point = 0 0", ""),
+    ("vector_parameter_study num_steps = 0 step_vector = 0.5 0.5", "", ""),
+    ("vector_parameter_study num_steps = 300 step_vector = 0.5 -0.25", "initial_point = -20 3", ""),
+    ("vector_parameter_study num_steps = 3 final_point = 1 1", "", "failure_capture recover = 7"),
+    ("vector_parameter_study num_steps = 3 final_point = 1 1", "", "failure_capture retry = 2"),
+    ("vector_parameter_study num_steps = 7 final_point = 7 1", "", "failure_capture retry = 300"),
+    ("vector_parameter_study num_steps = 90 final_point = 1 1", "", "failure_capture recover = -1e-3"),
+    ("vector_parameter_study num_steps = 3 final_point = 1 1", "", "failure_capture abort"),
+    ("list_parameter_study list_of_points = 0.10 0 1e-1 0", "", ""),
+    ("list_parameter_study list_of_points = 1 1 0 0 1 1 2 3 0 0.0 5 5 1 1 -1 2", "", "failure_capture retry = 1"),
+    ("centered_parameter_study step_vector = 1 0.1 steps_per_variable = 3 2", "initial_point = 0.5 1", ""),
+    ("multidim_parameter_study partitions = 8 8", "lower_bounds = -2 -2 upper_bounds = 2 2", ""),
+    ("multidim_parameter_study partitions = 3 3", "lower_bounds = -2 -2 upper_bounds = 2 2", "failure_capture recover = 5"),
+    ("multidim_parameter_study partitions = 3 3", "lower_bounds = -2 -2 upper_bounds = 2 2", "failure_capture retry = 4"),
+    ("multidim_parameter_study partitions = 24 16", "lower_bounds = -2 -2 upper_bounds = 4 2", "failure_capture retry = 3"),
+    ("multidim_parameter_study partitions = 21 19", "lower_bounds = -2 -2 upper_bounds = 2 2", "failure_capture recover = 0"),
+]
+
+BY_CHANCE = 24
+MOST_ATTEMPTS = 1200
+
+
+class Study:
+    """A study's text, its parts, and the attempts that it makes."""
+
+    def __init__(self, text):
+        self.text, self.parts = text, read_study(text)
+        journal = Journal()
+        _, self.failed = evaluate(self.parts, journal)
+        self.entries = journal.book.entries
+
+
+def text_by_chance(number, seed):
+    """The text of a study that is evaluated, whose table is the file `t.dat`, and which makes not too many attempts."""
+    source = random.Random(f"{seed} study {number}")
+    while True:
+        text = run_text(source)
+        try:
+            study = read_study(text)
+        except Refused:
+            continue
+        if is_evaluated(study) and study.table == b"t.dat" and study.limit <= MOST_ATTEMPTS:
+            return text
+
+
+def all_studies(seed):
+    studies = []
+    for at, (method, variables, rule) in enumerate(ROWS):
+        responses = "response_functions" if at % 5 == 4 else "objective_functions"
+        studies.append(Study(TEXT.format(method=method, variables=variables, rule=rule, responses=responses).encode()))
+    studies += [Study(text_by_chance(it, seed)) for it in range(BY_CHANCE)]
+    return studies
+
+
+def named_table(text, name):
+    """The text with another name for its table."""
+    return re.sub(rb"'t\.dat'", b"'%s'" % name, text)
