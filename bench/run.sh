@@ -1,8 +1,11 @@
 #!/bin/sh
-# Compares the proved program with Python and C on four studies that it runs, and with Python on one that it reads: run.sh
-# [RUNS]. README.md beside it says more.
+# Compares the proved program with Python and C on four studies that it runs, with C on the restart file that it keeps, with
+# Python on one that it goes on with and on a study that it reads, and with C on the files of attempts and on attempts with
+# children: run.sh [RUNS]. README.md beside it says more.
 here=$(CDPATH='' cd -P -- "$(dirname -- "$0")" && pwd) || exit 1
 runs=${1:-11}
+program=$here/../crates/dakota/out/dakota
+measure=$here/../crates/dk_measure/out/dk_measure
 if ! command -v python3 >/dev/null 2>&1; then
     echo "bench: python3, which measures, isn't on this machine" >&2
     exit 1
@@ -13,18 +16,54 @@ if [ "$?" -ne 2 ]; then
     echo "bench: the proved program can't be run" >&2
     exit 1
 fi
-scratch=$(mktemp -d) || exit 1
-trap 'rm -rf "$scratch"' EXIT
+# The restart file on a disk is that of a run in the program's own folder.
+scratch=$(mktemp -d "$here/../crates/dakota/out/bench.XXXXXX") || exit 1
+memory=
+trap 'rm -rf "$scratch" ${memory:+"$memory"}' EXIT
 trap 'exit 1' HUP INT TERM
+if [ -d /dev/shm ] && [ -w /dev/shm ]; then
+    memory=$(mktemp -d /dev/shm/bench.XXXXXX) || exit 1
+else
+    echo "bench: no file system in memory (/dev/shm) is on this machine, so the studies are left out" >&2
+fi
 compiled=
 if command -v gcc >/dev/null 2>&1; then
-    gcc -O2 -o "$scratch/study" "$here/study.c" && compiled=$scratch/study
+    gcc -O2 -o "$scratch/study" "$here/study.c" && gcc -O2 -o "$scratch/journal" "$here/journal.c" &&
+        gcc -O2 -o "$scratch/texts" "$here/texts.c" "$here/files.c" &&
+        gcc -O2 -o "$scratch/attempts" "$here/attempts.c" "$here/files.c" &&
+        { gcc -O2 -static -o "$scratch/child" "$here/child.c" 2>/dev/null || gcc -O2 -o "$scratch/child" "$here/child.c"; } &&
+        compiled=$scratch
 else
-    echo "bench: gcc isn't on this machine, so the study in C is left out" >&2
+    echo "bench: gcc isn't on this machine, so the studies, the restart file and attempts in C are left out" >&2
 fi
-for study in study.in recover.in grid.in long.in; do
-    python3 "$here/measure.py" "$runs" "$scratch" "$here/$study" "$here/../crates/dakota/out/dakota" "$here/study.py" \
-        ${compiled:+"$compiled"} || exit 1
-done
+if [ -n "$compiled" ]; then
+    "$here/build.sh" || exit 1
+fi
+if [ -n "$memory" ]; then
+    for study in study.in recover.in grid.in long.in; do
+        python3 "$here/measure.py" "$runs" "$memory" "$here/$study" "$program" "$here/study.py" \
+            ${compiled:+"$compiled/study" "$compiled/journal"} || exit 1
+    done
+fi
+if [ -n "$compiled" ]; then
+    if command -v strace >/dev/null 2>&1; then
+        python3 "$here/journal.py" --calls "${memory:-$scratch}" "$here/study.in" "$program" "$compiled/journal" || exit 1
+    else
+        echo "bench: strace isn't on this machine, so the writes and syncs aren't compared" >&2
+    fi
+    python3 "$here/journal.py" 31 "$scratch" "$here/study.in" "$program" "$compiled/journal" || exit 1
+fi
+python3 "$here/resume.py" "$runs" "$scratch" "$here/long.in" "$program" "$here/records.py" || exit 1
 python3 "$here/list.py" --make "$scratch/list.in" || exit 1
-python3 "$here/read.py" "$runs" "$scratch/list.in" "$here/../crates/dakota/out/dakota" "$here/list.py"
+python3 "$here/read.py" "$runs" "$scratch/list.in" "$program" "$here/list.py" || exit 1
+[ -n "$compiled" ] || exit 0
+set -- "$measure" "$compiled/attempts" "$compiled/child"
+python3 "$here/texts.py" 101 "${memory:-$scratch}" "$1" "$compiled/texts" "$2" "$3" || exit 1
+if command -v strace >/dev/null 2>&1; then
+    python3 "$here/attempts.py" --calls "${memory:-$scratch}" "$@" || exit 1
+else
+    echo "bench: strace isn't on this machine, so the calls of attempts aren't compared" >&2
+fi
+for folder in ${memory:+"$memory"} "$scratch"; do
+    python3 "$here/attempts.py" 101 "$folder" "$@" || exit 1
+done
