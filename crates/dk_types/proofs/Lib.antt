@@ -7,3 +7,4 @@ pub mod Once
 pub mod Alone
 pub mod Growth
 pub mod RuleAnswers
+pub mod Placed

@@ -12,3 +12,4 @@ pub mod Laws
 pub mod EntryLaws
 pub mod Best
 pub mod Texts
+pub mod Sheets

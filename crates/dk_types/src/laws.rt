@@ -1,6 +1,7 @@
 //! Laws of the definitions. Each is the contract of a function that does nothing.
 ghost use Rattle.dk_types.specs.Laws.{EachStudyComesOnce, EachStudyEndsOnce, RowsAreThePoints};
 ghost use Rattle.dk_types.specs.Rules.{EachRuleAnswers};
+ghost use Rattle.dk_types.specs.Sheets.{PlacesStay, SamePointSamePlace, NextHasPlace};
 ghost use Rattle.dk_types.specs.EntryLaws.{OthersKeepTheirAnswer, AnsweredStays, NextIsTheNextAttempt, CardsSayTheSame, EachCardsHaveEntries, DecidedStays, RowsStay, DecidedAlike, DecidedAsAlone};
 
 /// For each study whose points are known from the beginning, and whatever the attempts gave, there is just one list of
@@ -71,4 +72,19 @@ pub fn decided_alike()
 /// Attempts that gave what a child gives decide a study as the child does.
 pub fn decided_as_alone()
     ensures { DecidedAsAlone }
+{}
+
+/// A point's place in the sheet stays, whatever attempts are added.
+pub fn places_stay()
+    ensures { PlacesStay }
+{}
+
+/// Points that are one have one place.
+pub fn same_point_same_place()
+    ensures { SamePointSamePlace }
+{}
+
+/// A point that waits for an attempt behind the rows so far has the next row's number as its place.
+pub fn next_has_place()
+    ensures { NextHasPlace }
 {}
