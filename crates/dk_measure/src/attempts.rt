@@ -24,7 +24,7 @@ pub fn make_attempts<R: Files + Processes + AllocGlobal>(
     requires sound { IsSound study.now }
     requires width { length point.now ≡ length study.now.variables.labels }
 {
-    let bench = ChildBench::new(rt, prints);
+    let bench = ChildBench::new(rt, prints, "", "");
     match Station::station(rt.alloc(), bench, 0, study) {
         Ok(mut station) => attempt_rows(&mut station, point, count),
         Err(_) => Err(ErrorKind::OutOfMemory.into()),

@@ -13,8 +13,6 @@ ghost use Rattle.std.specs.Prelude.{◌≡◌, length, IfOk};
 ghost use Rattle.dk_types.specs.Sound.{IsSound};
 
 mod attempts;
-#[cfg(test)]
-mod tests;
 mod texts;
 
 use crate::attempts::make_attempts;

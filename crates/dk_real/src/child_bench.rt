@@ -3,6 +3,7 @@ ghost use Rattle.std.specs.Prelude.{◌≡◌, ◌≤◌, length, IfOk};
 ghost use Rattle.dk_outside.specs.Benches.{IsAtMost};
 
 use crate::faults::{counted, fault};
+use crate::opening::{is_at, is_older_file};
 use dk_outside::{Bench, Call, Failed, Fetched};
 use std::fs::File;
 use std::io::{ErrorKind, Read, Write};
@@ -14,23 +15,41 @@ use std::{fs, io};
 ///
 /// A child is started by the driver's words with the names of its two files behind them, and waited for; its exit status says
 /// nothing. Its standard input is empty, and what it prints goes to this program's standard error, so that standard output has
-/// the summary alone. A child that can't be started is a fault.
+/// the summary alone. A child that can't be started is a fault, and so is a name of a parameters file or a results file that
+/// leads to one of the files that are kept from children: the study, its restart file and the older ones.
 #[derive(Drop)]
 pub struct ChildBench<'a, R: Files + Processes + AllocGlobal> {
     rt: &'a R,
     prints: Stderr,
+    study: &'a str,
+    restart: &'a str,
     faults: u64,
 }
 
 impl<'a, R: Files + Processes + AllocGlobal> ChildBench<'a, R> {
-    /// A bench whose children print to this stream.
-    pub fn new(rt: &'a R, prints: Stderr) -> ChildBench<'a, R>
+    /// A bench whose children print to this stream, for the study and the restart file at these paths, which are neither
+    /// cleared nor laid.
+    pub fn new(rt: &'a R, prints: Stderr, study: &'a str, restart: &'a str) -> ChildBench<'a, R>
         ensures { result.faults ≡ 0 }
     {
         ChildBench {
             rt,
             prints,
+            study,
+            restart,
             faults: 0,
+        }
+    }
+
+    /// Whether a name leads to a file that is kept from children.
+    fn keeps(&self, name: &str) -> bool {
+        match fs::metadata(self.rt, name) {
+            Ok(file) => {
+                is_at(self.rt, self.study, &file)
+                    || is_at(self.rt, self.restart, &file)
+                    || is_older_file(self.rt, self.restart, name)
+            }
+            Err(_) => false,
         }
     }
 
@@ -72,11 +91,17 @@ impl<R: Files + Processes + AllocGlobal> Bench for ChildBench<'_, R> {
     ghost stay_together = { λ old new parameters results after one. tt };
 
     fn clear(&mut self, name: &str) -> Result<(), Failed> {
+        if self.keeps(name) {
+            return Err(fault(&mut self.faults));
+        }
         let answer = remove(self.rt, name);
         counted(answer, &mut self.faults)
     }
 
     fn lay(&mut self, name: &str, bytes: &[u8]) -> Result<(), Failed> {
+        if self.keeps(name) {
+            return Err(fault(&mut self.faults));
+        }
         let answer = make(self.rt, name, bytes);
         counted(answer, &mut self.faults)
     }

@@ -69,7 +69,7 @@ fn lock<R: Files>(files: &R, path: &str, study: &str, file: &File) -> io::Result
 }
 
 /// Whether a path leads to this file, by its device and number: also by links.
-fn is_at<R: Files>(files: &R, path: &str, file: &Metadata) -> bool {
+pub fn is_at<R: Files>(files: &R, path: &str, file: &Metadata) -> bool {
     match fs::metadata(files, path) {
         Ok(found) => found.dev() == file.dev() && found.ino() == file.ino(),
         Err(_) => false,

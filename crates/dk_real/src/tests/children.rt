@@ -11,6 +11,13 @@ const PARAMETERS: &str = "p.in";
 
 const RESULTS: &str = "r.out";
 
+/// Files that are kept from children.
+const STUDY: &str = "kept.in";
+
+const RESTART: &str = "kept.rst";
+
+const OLDER: &str = "kept.rst.old";
+
 /// The words of a driver.
 fn words(alloc: Global, texts: &[&str]) -> Result<Words, AllocError> {
     let mut items = Vec::new(alloc);
@@ -35,7 +42,7 @@ const CASES: [(&str, Fetched); 7] = [
 #[test]
 fn children_leave_what_they_will(rt: HostRuntime) -> Result<(), Fail> {
     let driver = words(rt.alloc(), &["sh", SCRIPT])?;
-    let mut bench = ChildBench::new(&rt, rt.stderr());
+    let mut bench = ChildBench::new(&rt, rt.stderr(), STUDY, RESTART);
     let mut buf = vec![in rt.alloc(); 0; 65_536]?;
     for (script, left) in CASES {
         fs::write(&rt, SCRIPT, script)?;
@@ -61,7 +68,7 @@ fn children_leave_what_they_will(rt: HostRuntime) -> Result<(), Fail> {
 #[test]
 fn what_fails_is_a_fault(rt: HostRuntime) -> Result<(), Fail> {
     let driver = words(rt.alloc(), &["./none"])?;
-    let mut bench = ChildBench::new(&rt, rt.stderr());
+    let mut bench = ChildBench::new(&rt, rt.stderr(), STUDY, RESTART);
     let call = Call {
         driver: &driver,
         parameters: PARAMETERS,
@@ -72,5 +79,21 @@ fn what_fails_is_a_fault(rt: HostRuntime) -> Result<(), Fail> {
     assert_eq!(rt; bench.fetch(".", &mut [0; 8]), Err(Failed));
     assert_eq!(rt; bench.clear("."), Err(Failed));
     assert_eq!(rt; bench.lay("none/p.in", b"2 params\n"), Err(Failed));
+    Ok(())
+}
+
+/// The study, its restart file and an older one are neither cleared nor laid, by whatever path.
+#[test]
+fn files_are_kept_from_children(rt: HostRuntime) -> Result<(), Fail> {
+    let mut bench = ChildBench::new(&rt, rt.stderr(), STUDY, RESTART);
+    for name in [STUDY, RESTART, OLDER] {
+        fs::write(&rt, name, "kept")?;
+    }
+    for name in [STUDY, RESTART, OLDER, "./kept.in", "./kept.rst"] {
+        assert_eq!(rt; bench.clear(name), Err(Failed));
+        assert_eq!(rt; bench.lay(name, b"2 params\n"), Err(Failed));
+        let file = fs::read(&rt, name)?;
+        assert_eq!(rt; file.as_slice(), b"kept".as_slice());
+    }
     Ok(())
 }
