@@ -1,21 +1,21 @@
 // What the words of the command line are carried out by.
-ghost use Rattle.std.specs.Prelude.{◌≡◌, ◌⊎◌};
+ghost use Rattle.std.specs.Prelude.{◌≡◌, ◌⊎◌, ◌≤◌, length, IfOk};
 ghost use Rattle.dk_outside.specs.Causes.{Rose};
 ghost use Rattle.dk_outside.specs.Sinks.{Grows};
 ghost use Rattle.dk_runner.specs.Headline.{Says, OnlyGrows};
 ghost use Rattle.dk_runner.specs.Lines.{line};
 ghost use Rattle.dk_runner.specs.declared.status.Status.TheVariants.{Finished, NoMemory, SinkFault};
 
-use crate::absent::NoBench;
 use dk_outside::sink::write_all;
 use dk_outside::{Mode, Sink};
-use dk_real::{FileDisk, FileSink, FileSource};
+use dk_real::{ChildBench, FileDisk, FileSink, FileSource};
 use dk_runner::{Command, CommandFault, Status, Which, check, command, dakota, usage, write_line};
 use std::alloc::{AllocError, Global};
 use std::fs::File;
-use std::rt::Files;
+use std::process::Processes;
+use std::rt::{Files, Stderr};
 
-/// How many children may run at once.
+/// How many benches a run is handed.
 const BENCHES: usize = 64;
 
 pub const HELP: &str = "dakota: runs a study of a simulation, or checks one
@@ -44,10 +44,11 @@ and what the exit statuses are.
 pub const VERSION: &str = "dakota, Dirhaulk 0.1.0\n";
 
 /// Carries out the words behind the program's name: runs or checks the study in a file, prints a text that is asked
-/// for, or says where the words are wrong. Answers how that ended.
-pub fn carry_out<R: Files<File = File> + AllocGlobal, U: Sink>(
+/// for, or says where the words are wrong. Answers how that ended. What children print goes to `prints`.
+pub fn carry_out<R: Files<File = File> + Processes + AllocGlobal, U: Sink>(
     rt: &R,
     words: &[String],
+    prints: Stderr,
     out: &mut U,
 ) -> Status {
     if let Some(text) = text_asked_for(words) {
@@ -60,7 +61,13 @@ pub fn carry_out<R: Files<File = File> + AllocGlobal, U: Sink>(
                 restart,
                 mode,
             },
-        ) => run_file(rt, words, input.as_str(), restart.as_str(), mode, out),
+        ) => {
+            let paths = Paths {
+                study: input.as_str(),
+                restart: restart.as_str(),
+            };
+            run_file(rt, words, &paths, mode, prints, out)
+        }
         Ok(Command::Check { input }) => {
             let mut study = FileSource::new(rt, input.as_str());
             check(rt.alloc(), words, &mut study, out)
@@ -105,28 +112,35 @@ fn print_text<U: Sink>(text: &str, out: &mut U) -> Status
     }
 }
 
+/// The files of a run.
+#[derive(Drop)]
+struct Paths<'a> {
+    study: &'a str,
+    restart: &'a str,
+}
+
 /// Runs the study in a file over a restart file. The table can take neither's place.
-fn run_file<R: Files<File = File> + AllocGlobal, U: Sink>(
+fn run_file<R: Files<File = File> + Processes + AllocGlobal, U: Sink>(
     rt: &R,
     words: &[String],
-    path: &str,
-    restart: &str,
+    paths: &Paths<'_>,
     mode: Mode,
+    prints: Stderr,
     out: &mut U,
 ) -> Status
     ensures out_fault { result ≡ SinkFault Which.Out → Rose (U.faults out.old) (U.faults out.new) }
     ensures never_begun { OnlyGrows (U.held out.old) (U.held out.new) }
 {
-    let Ok(benches) = benches(rt.alloc()) else {
+    let Ok(benches) = benches(rt, prints, paths) else {
         return end_without_memory(out);
     };
-    let mut study = FileSource::new(rt, path);
-    let mut table = FileSink::new(rt, path, restart);
+    let mut study = FileSource::new(rt, paths.study);
+    let mut table = FileSink::new(rt, paths.study, paths.restart);
     let ended = dakota(
         rt.alloc(),
         words,
         &mut study,
-        FileDisk::new(rt, restart, mode, path),
+        FileDisk::new(rt, paths.restart, mode, paths.study),
         &mut table,
         out,
         benches,
@@ -134,10 +148,17 @@ fn run_file<R: Files<File = File> + AllocGlobal, U: Sink>(
     ended.status
 }
 
-fn benches(alloc: Global) -> Result<Vec<NoBench>, AllocError> {
-    let mut benches = Vec::with_capacity(alloc, BENCHES)?;
-    for _ in 0..BENCHES {
-        benches.push(NoBench::new())?;
+/// As many benches as a run is handed, each in the current folder.
+fn benches<'a, R: Files + Processes + AllocGlobal>(
+    rt: &'a R,
+    prints: Stderr,
+    paths: &Paths<'a>,
+) -> Result<Vec<ChildBench<'a, R>>, AllocError>
+    ensures { IfOk result (λ benches. 64 ≤ length benches.items) }
+{
+    let mut benches = Vec::with_capacity(rt.alloc(), BENCHES)?;
+    while benches.len() < BENCHES {
+        benches.push(ChildBench::new(rt, prints, paths.study, paths.restart))?;
     }
     Ok(benches)
 }

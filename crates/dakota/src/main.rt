@@ -1,7 +1,6 @@
 //! The program: it hands the words of the command line, and standard output, to the function that carries them out.
 #![tactic(auto)]
 
-mod absent;
 mod carry_out;
 #[cfg(test)]
 mod tests;
@@ -19,7 +18,7 @@ fn main(rt: HostRuntime) -> ExitCode {
     let _output = placeholder(&rt);
     let mut out = OutSink::new(&rt);
     let status = match words(&rt) {
-        Ok(words) => carry_out(&rt, &words, &mut out),
+        Ok(words) => carry_out(&rt, &words, rt.stderr(), &mut out),
         Err(AllocError) => end_without_memory(&mut out),
     };
     ExitCode::from(status.code())

@@ -1,6 +1,8 @@
 pub mod Pooled
 pub mod Reaching
 pub mod Appends
+pub mod Made
+pub mod Trying
 pub mod Settling
 pub mod SoFar
 pub mod Evaluations

@@ -12,7 +12,6 @@ use Rattle.dk_types.specs.declared.study.FailRule.TheVariants.{Abort, Retry, Rec
 use Rattle.dk_types.specs.Entries.{values_of, next_attempt}
 use Rattle.dk_types.specs.Answers.{Answer, Next, answer, answer_by, retries}
 use Rattle.dk_types.specs.Cards.{Card, card_said}
-use Rattle.dk_types.specs.Solo.{Child}
 use Rattle.dk_types.specs.Sound.{IsSoundRule}
 use Rattle.dk_types.proofs.CardAnswers.{due_in_time, next_due}
 use Rattle.dk_book.specs.Books.{BookState, IsBook, IsDue, tried, with_attempt, room_taken}
@@ -22,8 +21,17 @@ use Rattle.dk_journal.specs.declared.fault.AppendFault.{AppendFault}
 use Rattle.dk_journal.specs.declared.fault.AppendFault.TheVariants as append
 use Rattle.dk_journal.specs.Journals.{JournalState, ComesNext}
 use Rattle.dk_outside.specs.Causes.{Rose}
-use Rattle.dk_evaluate.specs.Keeping.{Keeps, KeepSome, KeepsNext, KeepsOne, AreAlike, WaitsFor, entry_with}
-use Rattle.dk_evaluate.specs.Evaluated.{AreAsked, HasAppended, HasBroken, HasFilled, HasStopped, ComesTo, StopsAt, SettlesBook, points_of}
+use Rattle.dk_outside.specs.Benches.{Contents, Leaves}
+use Rattle.dk_params.specs.declared.task.Task.{Task}
+use Rattle.dk_fork.specs.declared.serve.BenchStep.{BenchStep}
+use Rattle.dk_evaluate.specs.Making.{Makes}
+use Rattle.dk_evaluate.specs.Attempted.{IsKept, IsNotKept, IsNotMade, Attempted}
+use Rattle.dk_evaluate.specs.declared.settle.Stop.{Stop}
+use Rattle.dk_evaluate.specs.declared.settle.Stop.TheVariants as stop
+use Rattle.dk_evaluate.specs.declared.settle.Settled.TheVariants as settled
+use Rattle.dk_evaluate.proofs.Made.{makes_none, makes_then, breaks_then}
+use Rattle.dk_evaluate.specs.Keeping.{Keeps, KeepSome, AreAlike, WaitsFor, entry_with}
+use Rattle.dk_evaluate.specs.Evaluated.{AreAsked, HasAppended, HasBroken, HasFilled, HasStopped, ComesTo, StopsAt, BreaksAt, Settles, SettlesBook, points_of}
 use Rattle.dk_evaluate.proofs.Reaching.{asked_more}
 use Rattle.dk_evaluate.proofs.Appends.{none_appended, appended_then, next_appended, broken_then, filled_then, not_kept}
 
@@ -77,15 +85,16 @@ fewer_there rule book after index attempt card x there asks due cards =
 
 -- Attempt after attempt
 
--- the point's attempts that were appended behind these entries, so far
-pub record HasTried (child : Child) (rule : FailRule) (p : List Decimal) (card : Card) (book : BookState) (old now : JournalState) (entries : List Entry) : Type 0 where
+-- the point's attempts that were made and appended behind these entries, so far
+pub record HasTried (leaves : Leaves) (task : Task) (row : ℕ) (rule : FailRule) (p : List Decimal) (card : Card) (book : BookState) (old now : JournalState) (bench later : Option Contents) (entries : List Entry) : Type 0 where
   pub added : List Entry
-  pub appended : HasAppended child old now entries added
+  pub appended : HasAppended old now entries added
+  pub made : Makes leaves task row added bench later
   pub stands : StandsFor book (entries ++ added)
   pub few : length added + left_of rule (Some card) ≤ retries rule + 1
   pub asked : AreAsked rule p entries added
 
-pub record IsSettling (child : Child) (rule : FailRule) (p : List Decimal) (old_book book : BookState) (old now : JournalState) (index : ℕ) : Type 0 where
+pub record IsSettling (leaves : Leaves) (task : Task) (row : ℕ) (rule : FailRule) (p : List Decimal) (old_book book : BookState) (old now : JournalState) (bench later : Option Contents) (index : ℕ) : Type 0 where
   pub card : Card
   pub there : slice_get book.cards index ≡ Some card
   pub point_is : card.point ≡ p
@@ -93,30 +102,7 @@ pub record IsSettling (child : Child) (rule : FailRule) (p : List Decimal) (old_
   pub room : card.values ≡ None → old_book.room ≤ book.room
   pub alike : AreAlike book now
   pub some : KeepSome old_book old
-  pub each : (entries : List Entry) → Keeps old_book old entries → HasTried child rule p card book old now entries
-
-pub settling_first : (child : Child) (rule : FailRule) (p : List Decimal) (book : BookState) (journal : JournalState) (index : ℕ) → IsBook book → KeepSome book journal → AreAlike book journal →
-    option_map (λ (c : Card). c.point) (slice_get book.cards index) ≡ Some p → IsSettling child rule p book book journal journal index
-settling_first child rule p book journal index is some alike h = at (slice_get book.cards index) refl h
-  where
-    at : (o : Option Card) → slice_get book.cards index ≡ o → option_map (λ (c : Card). c.point) o ≡ Some p → IsSettling child rule p book book journal journal index
-    at None e h = absurd (cc)
-    at (Some c) e h = record {
-      card = c;
-      there = e;
-      point_is = cc;
-      settles = record { book = is; points = refl; spare = refl; room = omega arith; variables = refl; responses = refl };
-      room = λ n. omega arith;
-      alike = alike;
-      some = some;
-      each = λ entries keeps. record {
-        added = [];
-        appended = none_appended child journal entries keeps.holds;
-        stands = subst (StandsFor book) (sym (append-nil entries)) keeps.stands;
-        few = omega (arith, few_left rule c);
-        asked = tt;
-      };
-    }
+  pub each : (entries : List Entry) → Keeps old_book old entries → HasTried leaves task row rule p card book old now bench later entries
 
 -- what the card's attempts come to
 pub answer_here : (rule : FailRule) (book : BookState) (index : ℕ) (card : Card) (a : Answer) → slice_get book.cards index ≡ Some card → Some a ≡ answer_at rule book index → answer_by rule (card_said card) ≡ a
@@ -139,146 +125,177 @@ due_here book index attempt card there due = subst (λ (o : Option Card). IfSome
 abbrev pub TellsOf : FailRule → BookState → (index : ℕ) → Answer → Type 0
 TellsOf rule book index a = (entries : List Entry) → StandsFor book entries → Some a ≡ answer_there rule book entries index
 
-pub comes_to : (child : Child) (rule : FailRule) (p : List Decimal) (old_book book : BookState) (old now : JournalState) (index : ℕ) (a : Answer) → IsSettling child rule p old_book book old now index → TellsOf rule book index a →
-    (entries : List Entry) → Keeps old_book old entries → ComesTo child rule p a book old now entries
-comes_to child rule p old_book book old now index a was tells entries keeps =
-    let h = was.each entries keeps in
-    let few = h.few in
-    record {
-      added = h.added;
-      few = omega arith;
-      asked = h.asked;
-      appended = h.appended;
-      stands = h.stands;
-      is = answer_of rule book (entries ++ h.added) index was.card p a was.there was.point_is (tells (entries ++ h.added) h.stands);
-    }
+module _ (leaves : Leaves) (task : Task) (row : ℕ) (rule : FailRule) (p : List Decimal) where
+  pub settling_first : (book : BookState) (journal : JournalState) (bench : Option Contents) (index : ℕ) → IsBook book → KeepSome book journal → AreAlike book journal →
+      option_map (λ (c : Card). c.point) (slice_get book.cards index) ≡ Some p → IsSettling leaves task row rule p book book journal journal bench bench index
+  settling_first book journal bench index is some alike h = at (slice_get book.cards index) refl h
+    where
+      at : (o : Option Card) → slice_get book.cards index ≡ o → option_map (λ (c : Card). c.point) o ≡ Some p → IsSettling leaves task row rule p book book journal journal bench bench index
+      at None e h = absurd (cc)
+      at (Some c) e h = record {
+        card = c;
+        there = e;
+        point_is = cc;
+        settles = record { book = is; points = refl; spare = refl; room = omega arith; variables = refl; responses = refl };
+        room = λ n. omega arith;
+        alike = alike;
+        some = some;
+        each = λ entries keeps. record {
+          added = [];
+          appended = none_appended journal entries keeps.holds;
+          made = makes_none leaves task row task.interface.driver bench;
+          stands = subst (StandsFor book) (sym (append-nil entries)) keeps.stands;
+          few = omega (arith, few_left rule c);
+          asked = tt;
+        };
+      }
 
--- the next attempt, behind the entries and those that were tried
-waiting : (child : Child) (rule : FailRule) (p : List Decimal) (old_book book : BookState) (old now : JournalState) (index attempt : ℕ) → (was : IsSettling child rule p old_book book old now index) → TellsOf rule book index (Next attempt) →
-    (entries : List Entry) (h : HasTried child rule p was.card book old now entries) → next_attempt (entries ++ h.added) p ≡ Some attempt
-waiting child rule p old_book book old now index attempt was tells entries h =
-    next_due book.variables book.responses rule (entries ++ h.added) p attempt h.stands.well_formed (answer_of rule book (entries ++ h.added) index was.card p (Next attempt) was.there was.point_is (tells (entries ++ h.added) h.stands))
-
-pub waits_for : (child : Child) (rule : FailRule) (p : List Decimal) (old_book book : BookState) (old now : JournalState) (index attempt : ℕ) → IsSettling child rule p old_book book old now index → TellsOf rule book index (Next attempt) →
-    length p ≡ old_book.variables → WaitsFor now p attempt
-waits_for child rule p old_book book old now index attempt was tells width =
-    let h = was.each was.some.entries was.some.keeps in
-    record {
-      entries = was.some.entries ++ h.added;
-      holds = h.appended.holds;
-      width = width ∙ sym was.settles.variables ∙ was.alike.variables;
-      next = waiting child rule p old_book book old now index attempt was tells was.some.entries h;
-    }
-
-comes_next : (child : Child) (rule : FailRule) (p : List Decimal) (old_book book : BookState) (old now : JournalState) (index attempt : ℕ) → (was : IsSettling child rule p old_book book old now index) → TellsOf rule book index (Next attempt) →
-    length p ≡ old_book.variables → IfSome (values_of (child p attempt)) (λ given. length given ≡ book.responses) → (entries : List Entry) (h : HasTried child rule p was.card book old now entries) →
-    ComesNext now.shape (entries ++ h.added) (entry_with p attempt (child p attempt))
-comes_next child rule p old_book book old now index attempt was tells width wide entries h = record {
-  point = width ∙ sym was.settles.variables ∙ was.alike.variables;
-  values = subst (λ (n : ℕ). IfSome (values_of (child p attempt)) (λ given. length given ≡ n)) was.alike.responses wide;
-  next = waiting child rule p old_book book old now index attempt was tells entries h;
-}
-
--- the attempts that were tried, and the next one
-asked_now : (child : Child) (rule : FailRule) (p : List Decimal) (old_book book : BookState) (old now : JournalState) (index attempt : ℕ) → (was : IsSettling child rule p old_book book old now index) → TellsOf rule book index (Next attempt) →
-    (entries : List Entry) (h : HasTried child rule p was.card book old now entries) → AreAsked rule p entries (h.added ++ entry_with p attempt (child p attempt) ∷ [])
-asked_now child rule p old_book book old now index attempt was tells entries h =
-    asked_more rule p entries h.added (entry_with p attempt (child p attempt)) h.asked refl
-    (answer_of rule book (entries ++ h.added) index was.card p (Next attempt) was.there was.point_is (tells (entries ++ h.added) h.stands))
-
--- one attempt more was kept
-pub settling_more : (child : Child) (rule : FailRule) (p : List Decimal) (old_book book after : BookState) (old now later : JournalState) (index attempt : ℕ) → IsSettling child rule p old_book book old now index →
-    TellsOf rule book index (Next attempt) → Some (Next attempt) ≡ answer_at rule book index → IfSome (slice_get book.cards index) (λ c. IsDue c attempt) → length p ≡ old_book.variables →
-    IfSome (values_of (child p attempt)) (λ given. length given ≡ book.responses) →
-    after.cards ≡ with_attempt book.cards index (child p attempt) → after.room + room_taken (child p attempt) ≡ book.room → after.spare ≡ book.spare → after.variables ≡ book.variables → after.responses ≡ book.responses → IsBook after →
-    later.shape ≡ now.shape → later.limit ≡ now.limit → now.faults ≤ later.faults →
-    ((entries : List Entry) → Keeps book now entries → ComesNext now.shape entries (entry_with p attempt (child p attempt)) → KeepsNext after now later entries (entry_with p attempt (child p attempt))) →
-    IsSettling child rule p old_book after old later index
-settling_more child rule p old_book book after old now later index attempt was tells asks due width wide cards room spare variables responses is shape limit faults keeps_more =
-    at (child p attempt) refl
-  where
-    d : IsDue was.card attempt
-    d = due_here book index attempt was.card was.there due
-
-    e : Entry
-    e = entry_with p attempt (child p attempt)
-
-    least : (x : Said) → after.room + room_taken x ≡ book.room → old_book.room ≤ book.room → old_book.room ≤ after.room + 1
-    least (Values v) t e = omega arith
-    least Failed t e = omega arith
-
-    none : (x : Said) → after.room + room_taken x ≡ book.room → old_book.room ≤ book.room → (tried x was.card).values ≡ None → old_book.room ≤ after.room
-    none (Values v) t e h = absurd (cc)
-    none Failed t e h = omega arith
-
-    more : (x : Said) → child p attempt ≡ x → (entries : List Entry) → Keeps old_book old entries → HasTried child rule p (tried x was.card) after old later entries
-    more x same entries keeps =
+  module _ (old_book book : BookState) (old now : JournalState) (bench later : Option Contents) (index : ℕ) (was : IsSettling leaves task row rule p old_book book old now bench later index) where
+    pub comes_to : (a : Answer) → TellsOf rule book index a → (entries : List Entry) → Keeps old_book old entries → ComesTo leaves task rule row p a book old now bench later entries
+    comes_to a tells entries keeps =
         let h = was.each entries keeps in
-        let k = keeps_more (entries ++ h.added) (record { stands = h.stands; holds = h.appended.holds }) (comes_next child rule p old_book book old now index attempt was tells width wide entries h) in
-        let left = fewer_left rule was.card attempt x (answer_here rule book index was.card (Next attempt) was.there asks) d in
         let few = h.few in
         record {
-          added = h.added ++ e ∷ [];
-          appended = appended_then child old now later entries h.added (e ∷ []) h.appended (next_appended child after now later (entries ++ h.added) e refl k shape limit faults);
-          stands = subst (StandsFor after) (append_assoc entries h.added (e ∷ [])) k.keeps.stands;
-          few = omega (arith, left, few, length-append h.added (e ∷ []));
-          asked = asked_now child rule p old_book book old now index attempt was tells entries h;
+          added = h.added;
+          few = omega arith;
+          asked = h.asked;
+          appended = h.appended;
+          made = h.made;
+          stands = h.stands;
+          is = answer_of rule book (entries ++ h.added) index was.card p a was.there was.point_is (tells (entries ++ h.added) h.stands);
         }
 
-    at : (x : Said) → child p attempt ≡ x → IsSettling child rule p old_book after old later index
-    at x same =
-        let here : after.cards ≡ with_attempt book.cards index x = cards ∙ ap (with_attempt book.cards index) same in
-        let taken : after.room + room_taken x ≡ book.room = ap (λ y. after.room + room_taken y) (sym same) ∙ room in
-        let enough = was.room d.none in
-        record {
-          card = tried x was.card;
-          there = ap (λ l. slice_get l index) here ∙ attempt_at book.cards index x was.card was.there;
-          point_is = tried_point x was.card ∙ was.point_is;
-          settles = record {
-            book = is;
-            points = ap points_of here ∙ points_tried book.cards index x ∙ was.settles.points;
-            spare = spare ∙ was.settles.spare;
-            room = least x taken enough;
-            variables = variables ∙ was.settles.variables;
-            responses = responses ∙ was.settles.responses;
-          };
-          room = none x taken enough;
-          alike = record { variables = variables ∙ was.alike.variables ∙ ap (λ s. length s.variables) (sym shape); responses = responses ∙ was.alike.responses ∙ ap (λ s. length s.responses) (sym shape) };
-          some = was.some;
-          each = more x same;
-        }
+    module _ (attempt : ℕ) (tells : TellsOf rule book index (Next attempt)) (width : length p ≡ old_book.variables) where
+      -- what the next attempt waits behind
+      asks_now : (entries : List Entry) (h : HasTried leaves task row rule p was.card book old now bench later entries) → answer rule (entries ++ h.added) p ≡ Next attempt
+      asks_now entries h = answer_of rule book (entries ++ h.added) index was.card p (Next attempt) was.there was.point_is (tells (entries ++ h.added) h.stands)
 
--- an attempt that wasn't kept
-pub stops_at : (child : Child) (rule : FailRule) (p : List Decimal) (old_book book after : BookState) (old now later : JournalState) (index attempt : ℕ) (fault : AppendFault) → (was : IsSettling child rule p old_book book old now index) →
-    TellsOf rule book index (Next attempt) → Some (Next attempt) ≡ answer_at rule book index → IfSome (slice_get book.cards index) (λ c. IsDue c attempt) → after ≡ book →
-    length p ≡ old_book.variables → IfSome (values_of (child p attempt)) (λ given. length given ≡ book.responses) → later.shape ≡ now.shape → now.faults ≤ later.faults → (fault ≡ append.Disk → Rose now.faults later.faults) →
-    ((entries : List Entry) → Keeps book now entries → ComesNext now.shape entries (entry_with p attempt (child p attempt)) → KeepsOne book after now later entries (entry_with p attempt (child p attempt)) (Err fault)) →
-    (entries : List Entry) → Keeps old_book old entries → StopsAt child rule p fault after old later entries
-stops_at child rule p old_book book after old now later index attempt fault was tells asks due same width wide shape grown rose keeps_not entries keeps =
-    let h = was.each entries keeps in
-    let d = due_here book index attempt was.card was.there due in
-    let left = fewer_left rule was.card attempt (child p attempt) (answer_here rule book index was.card (Next attempt) was.there asks) d in
-    let few = h.few in
-    record {
-      added = h.added;
-      e = entry_with p attempt (child p attempt);
-      few = omega (arith, left, few);
-      asked = asked_now child rule p old_book book old now index attempt was tells entries h;
-      stands = subst (λ (b : BookState). StandsFor b (entries ++ h.added)) (sym same) h.stands;
-      next = subst (λ (shape : Shape). ComesNext shape (entries ++ h.added) (entry_with p attempt (child p attempt))) h.appended.shape
-          (comes_next child rule p old_book book old now index attempt was tells width wide entries h);
-      answer_is = refl;
-      stopped = by fault (not_kept child book after now later (entries ++ h.added) (entry_with p attempt (child p attempt)) fault h.appended.holds
-          (keeps_not (entries ++ h.added) (record { stands = h.stands; holds = h.appended.holds }) (comes_next child rule p old_book book old now index attempt was tells width wide entries h)) shape grown rose);
-    }
-  where
-    by : (fault : AppendFault) → HasStopped child now later (entries ++ (was.each entries keeps).added) [] (entry_with p attempt (child p attempt)) fault →
-        HasStopped child old later entries (was.each entries keeps).added (entry_with p attempt (child p attempt)) fault
-    by append.Disk g =
-        let h = was.each entries keeps in
-        let all = broken_then child old now later entries h.added [] (entry_with p attempt (child p attempt)) h.appended g in
-        subst (λ (l : List Entry). HasBroken child old later entries l (entry_with p attempt (child p attempt))) (append-nil h.added) all
-    by (append.Full size) g =
-        let h = was.each entries keeps in
-        let all = filled_then child old now later entries h.added [] (entry_with p attempt (child p attempt)) size h.appended g in
-        subst (λ (l : List Entry). HasFilled child old later entries l (entry_with p attempt (child p attempt)) size) (append-nil h.added) all
+      -- the next attempt, behind the entries and those that were tried
+      waiting : (entries : List Entry) (h : HasTried leaves task row rule p was.card book old now bench later entries) → next_attempt (entries ++ h.added) p ≡ Some attempt
+      waiting entries h = next_due book.variables book.responses rule (entries ++ h.added) p attempt h.stands.well_formed (asks_now entries h)
+
+      pub waits_for : WaitsFor now p attempt
+      waits_for =
+          let h = was.each was.some.entries was.some.keeps in
+          record {
+            entries = was.some.entries ++ h.added;
+            holds = h.appended.holds;
+            width = width ∙ sym was.settles.variables ∙ was.alike.variables;
+            next = waiting was.some.entries h;
+          }
+
+      comes_next : (said : Said) → IfSome (values_of said) (λ given. length given ≡ book.responses) → (entries : List Entry) (h : HasTried leaves task row rule p was.card book old now bench later entries) →
+          ComesNext now.shape (entries ++ h.added) (entry_with p attempt said)
+      comes_next said wide entries h = record {
+        point = width ∙ sym was.settles.variables ∙ was.alike.variables;
+        values = subst (λ (n : ℕ). IfSome (values_of said) (λ given. length given ≡ n)) was.alike.responses wide;
+        next = waiting entries h;
+      }
+
+      -- the attempts that were tried, and the next one
+      asked_now : (said : Said) (entries : List Entry) (h : HasTried leaves task row rule p was.card book old now bench later entries) → AreAsked rule p entries (h.added ++ entry_with p attempt said ∷ [])
+      asked_now said entries h = asked_more rule p entries h.added (entry_with p attempt said) h.asked refl (asks_now entries h)
+
+      module _ (after : BookState) (end : JournalState) (last : Option Contents) (asks : Some (Next attempt) ≡ answer_at rule book index) (due : IfSome (slice_get book.cards index) (λ c. IsDue c attempt)) where
+        d : IsDue was.card attempt
+        d = due_here book index attempt was.card was.there due
+
+        least : (x : Said) → after.room + room_taken x ≡ book.room → old_book.room ≤ book.room → old_book.room ≤ after.room + 1
+        least (Values v) t e = omega arith
+        least Failed t e = omega arith
+
+        none : (x : Said) → after.room + room_taken x ≡ book.room → old_book.room ≤ book.room → (tried x was.card).values ≡ None → old_book.room ≤ after.room
+        none (Values v) t e h = absurd (cc)
+        none Failed t e h = omega arith
+
+        more : (k : IsKept leaves task row index p attempt book after now end later last) → (entries : List Entry) → Keeps old_book old entries → HasTried leaves task row rule p (tried k.said was.card) after old end bench last entries
+        more k entries keeps =
+            let h = was.each entries keeps in
+            let e = entry_with p attempt k.said in
+            let kept = k.kept.keeps (entries ++ h.added) (record { stands = h.stands; holds = h.appended.holds }) (comes_next k.said k.wide entries h) in
+            let left = fewer_left rule was.card attempt k.said (answer_here rule book index was.card (Next attempt) was.there asks) d in
+            let few = h.few in
+            record {
+              added = h.added ++ e ∷ [];
+              appended = appended_then old now end entries h.added (e ∷ []) h.appended (next_appended after now end (entries ++ h.added) e kept k.kept.shape k.kept.limit k.kept.later);
+              made = makes_then leaves task row task.interface.driver bench later last h.added (e ∷ []) h.made k.made;
+              stands = subst (StandsFor after) (append_assoc entries h.added (e ∷ [])) kept.keeps.stands;
+              few = omega (arith, left, few, length-append h.added (e ∷ []));
+              asked = asked_now k.said entries h;
+            }
+
+        -- one attempt more was kept
+        pub settling_more : IsKept leaves task row index p attempt book after now end later last → IsSettling leaves task row rule p old_book after old end bench last index
+        settling_more k =
+            let enough = was.room d.none in
+            record {
+              card = tried k.said was.card;
+              there = ap (λ l. slice_get l index) k.kept.cards ∙ attempt_at book.cards index k.said was.card was.there;
+              point_is = tried_point k.said was.card ∙ was.point_is;
+              settles = record {
+                book = k.kept.is_book;
+                points = ap points_of k.kept.cards ∙ points_tried book.cards index k.said ∙ was.settles.points;
+                spare = k.kept.spare ∙ was.settles.spare;
+                room = least k.said k.kept.room enough;
+                variables = k.kept.variables ∙ was.settles.variables;
+                responses = k.kept.responses ∙ was.settles.responses;
+              };
+              room = none k.said k.kept.room enough;
+              alike = record {
+                variables = k.kept.variables ∙ was.alike.variables ∙ ap (λ s. length s.variables) (sym k.kept.shape);
+                responses = k.kept.responses ∙ was.alike.responses ∙ ap (λ s. length s.responses) (sym k.kept.shape);
+              };
+              some = was.some;
+              each = more k;
+            }
+
+        left_now : (x : Said) → left_of rule (Some (tried x was.card)) + 1 ≤ left_of rule (Some was.card)
+        left_now x = fewer_left rule was.card attempt x (answer_here rule book index was.card (Next attempt) was.there asks) d
+
+        stopped_by : (fault : AppendFault) (e : Entry) (entries added : List Entry) → HasAppended old now entries added → HasStopped now end (entries ++ added) [] e fault → HasStopped old end entries added e fault
+        stopped_by append.Disk e entries added h g = subst (λ (l : List Entry). HasBroken old end entries l e) (append-nil added) (broken_then old now end entries added [] e h g)
+        stopped_by (append.Full size) e entries added h g = subst (λ (l : List Entry). HasFilled old end entries l e size) (append-nil added) (filled_then old now end entries added [] e size h g)
+
+        -- an attempt that was made and not kept
+        pub stops_at : (fault : AppendFault) → IsNotKept leaves task row p attempt fault book after now end later last → (entries : List Entry) → Keeps old_book old entries → StopsAt leaves task rule row p fault after old end bench last entries
+        stops_at fault k entries keeps =
+            let h = was.each entries keeps in
+            let e = entry_with p attempt k.said in
+            let left = left_now k.said in
+            let few = h.few in
+            let next = comes_next k.said k.wide entries h in
+            let here : Keeps book now (entries ++ h.added) = record { stands = h.stands; holds = h.appended.holds } in
+            record {
+              added = h.added;
+              e = e;
+              few = omega (arith, left, few);
+              asked = asked_now k.said entries h;
+              stands = subst (λ (b : BookState). StandsFor b (entries ++ h.added)) (sym k.not_kept.same) h.stands;
+              next = subst (λ (shape : Shape). ComesNext shape (entries ++ h.added) e) h.appended.shape next;
+              made = makes_then leaves task row task.interface.driver bench later last h.added (e ∷ []) h.made k.made;
+              stopped = stopped_by fault e entries h.added h.appended
+                  (not_kept book after now end (entries ++ h.added) e fault h.appended.holds (k.not_kept.keeps_not (entries ++ h.added) here next) k.not_kept.shape k.not_kept.later k.not_kept.rose);
+            }
+
+        -- an attempt that wasn't made
+        pub breaks_at : (step : BenchStep) → IsNotMade leaves task row p attempt step book after now end later last → (entries : List Entry) → Keeps old_book old entries → BreaksAt leaves task rule row p step after old end bench last entries
+        breaks_at step k entries keeps =
+            let h = was.each entries keeps in
+            let left = left_now Failed in
+            let few = h.few in
+            record {
+              added = h.added;
+              attempt = attempt;
+              few = omega (arith, left, few);
+              asked = h.asked;
+              waits = asks_now entries h;
+              appended = subst (λ (j : JournalState). HasAppended old j entries h.added) (sym k.same_journal) h.appended;
+              stands = subst (λ (b : BookState). StandsFor b (entries ++ h.added)) (sym k.same_book) h.stands;
+              broke = breaks_then leaves task row task.interface.driver bench later last h.added p attempt step h.made k.broke;
+            }
+
+        -- an attempt that isn't in the journal
+        pub stopped_at : (why : Stop) (values : List Decimal) → Attempted leaves task row index p attempt book after now end later last (Err why) → (entries : List Entry) → Keeps old_book old entries →
+            Settles leaves task rule row p values after old end bench last entries (settled.Stopped why)
+        stopped_at (stop.Append fault) values k entries keeps = stops_at fault k entries keeps
+        stopped_at (stop.Bench fault) values k entries keeps = breaks_at fault.step k entries keeps

@@ -26,15 +26,14 @@ use Rattle.dk_record.specs.Files.{Stands}
 use Rattle.dk_journal.specs.Covers.{StandsWithin}
 use Rattle.dk_journal.specs.Journals.{JournalState, Holds, ComesNext, IsTooLong, CoversTold}
 use Rattle.dk_evaluate.specs.Keeping.{KeepSome}
-use Rattle.dk_evaluate.specs.declared.evaluator.Reading.{Reading}
-use Rattle.dk_evaluate.specs.declared.evaluator.Reading.TheVariants as reading
+use Rattle.dk_outside.specs.Benches.{Contents, Leaves}
+use Rattle.dk_params.specs.declared.task.Task.{Task}
+use Rattle.dk_fork.specs.declared.serve.BenchStep.{BenchStep}
+use Rattle.dk_evaluate.specs.Making.{Makes, Breaks, AreMade, AreBroken}
+use Rattle.dk_evaluate.specs.declared.settle.Stop.{Stop}
+use Rattle.dk_evaluate.specs.declared.settle.Stop.TheVariants as stop
 use Rattle.dk_evaluate.specs.declared.settle.Settled.{Settled}
 use Rattle.dk_evaluate.specs.declared.settle.Settled.TheVariants as settled
-
--- what an attempt of a point gives, as it is read: values, which were written, or none
-abbrev pub Gives : Child → List Decimal → (attempt : ℕ) → (values : List Decimal) → Reading → Type 0
-Gives child p attempt values reading.Values = child p attempt ≡ Values values
-Gives child p attempt values reading.Failed = child p attempt ≡ Failed
 
 -- the entry says what the child gives
 abbrev pub IsAnswerOf : Child → Entry → Type 0
@@ -60,18 +59,16 @@ AreWaitedFor study before (e ∷ added) = ((rows : List Row) × Seq study before
 abbrev pub LeavesWithin : Shape → Option Course → (entries tried : List Entry) → Type 0
 LeavesWithin shape told entries tried = IfSome told (λ course. (bytes : List ℕ) → IsImage course.now bytes → StandsWithin (Stands shape) entries tried bytes)
 
--- the journal, which held the entries, holds these more, each of them the child's
-pub record HasAppended (child : Child) (old now : JournalState) (entries added : List Entry) : Type 0 where
+-- the journal, which held the entries, holds these more
+pub record HasAppended (old now : JournalState) (entries added : List Entry) : Type 0 where
   pub holds : Holds now (entries ++ added)
-  pub answers : All (IsAnswerOf child) added
   pub covers : CoversTold old.shape old.told now.told entries added
   pub shape : now.shape ≡ old.shape
   pub limit : now.limit ≡ old.limit
   pub later : old.faults ≤ now.faults
 
 -- these more were appended, and the disk failed while this one was
-pub record HasBroken (child : Child) (old now : JournalState) (entries added : List Entry) (e : Entry) : Type 0 where
-  pub answers : All (IsAnswerOf child) added
+pub record HasBroken (old now : JournalState) (entries added : List Entry) (e : Entry) : Type 0 where
   pub broken : now.whole ≡ false
   pub leaves : LeavesWithin old.shape now.told (entries ++ added) (e ∷ [])
   pub covers : CoversTold old.shape old.told now.told entries (added ++ e ∷ [])
@@ -80,40 +77,54 @@ pub record HasBroken (child : Child) (old now : JournalState) (entries added : L
   pub rose : Rose old.faults now.faults
 
 -- these more were appended, and for this one there is no room
-pub record HasFilled (child : Child) (old now : JournalState) (entries added : List Entry) (e : Entry) (size : ℕ) : Type 0 where
-  pub appended : HasAppended child old now entries added
+pub record HasFilled (old now : JournalState) (entries added : List Entry) (e : Entry) (size : ℕ) : Type 0 where
+  pub appended : HasAppended old now entries added
   pub too_long : IsTooLong old (entries ++ added) e size
 
 -- why the entry behind these wasn't appended
-abbrev pub HasStopped : Child → (old now : JournalState) → (entries added : List Entry) → Entry → AppendFault → Type 0
-HasStopped child old now entries added e append.Disk = HasBroken child old now entries added e
-HasStopped child old now entries added e (append.Full size) = HasFilled child old now entries added e size
+abbrev pub HasStopped : (old now : JournalState) → (entries added : List Entry) → Entry → AppendFault → Type 0
+HasStopped old now entries added e append.Disk = HasBroken old now entries added e
+HasStopped old now entries added e (append.Full size) = HasFilled old now entries added e size
 
--- attempts of the point were appended, each where the rule asked for it, until they came to this answer
-pub record ComesTo (child : Child) (rule : FailRule) (p : List Decimal) (a : Answer) (book : BookState) (old now : JournalState) (entries : List Entry) : Type 0 where
+-- attempts of the point were made in its row and appended, each where the rule asked for it, until they came to this answer
+pub record ComesTo (leaves : Leaves) (task : Task) (rule : FailRule) (row : ℕ) (p : List Decimal) (a : Answer) (book : BookState) (old now : JournalState) (bench later : Option Contents) (entries : List Entry) : Type 0 where
   pub added : List Entry
   pub few : length added ≤ retries rule + 1
   pub asked : AreAsked rule p entries added
-  pub appended : HasAppended child old now entries added
+  pub appended : HasAppended old now entries added
+  pub made : Makes leaves task row added bench later
   pub stands : StandsFor book (entries ++ added)
   pub is : answer rule (entries ++ added) p ≡ a
 
--- attempts of the point were appended, each where the rule asked for it, up to this one, which wasn't
-pub record StopsAt (child : Child) (rule : FailRule) (p : List Decimal) (fault : AppendFault) (book : BookState) (old now : JournalState) (entries : List Entry) : Type 0 where
+-- attempts of the point were made and appended up to this one, which was made and not appended
+pub record StopsAt (leaves : Leaves) (task : Task) (rule : FailRule) (row : ℕ) (p : List Decimal) (fault : AppendFault) (book : BookState) (old now : JournalState) (bench later : Option Contents) (entries : List Entry) : Type 0 where
   pub added : List Entry
   pub e : Entry
   pub few : length added + 1 ≤ retries rule + 1
   pub asked : AreAsked rule p entries (added ++ e ∷ [])
   pub stands : StandsFor book (entries ++ added)
   pub next : ComesNext old.shape (entries ++ added) e
-  pub answer_is : IsAnswerOf child e
-  pub stopped : HasStopped child old now entries added e fault
+  pub made : Makes leaves task row (added ++ e ∷ []) bench later
+  pub stopped : HasStopped old now entries added e fault
+
+-- attempts of the point were made and appended, and one call of the next one's failed
+pub record BreaksAt (leaves : Leaves) (task : Task) (rule : FailRule) (row : ℕ) (p : List Decimal) (step : BenchStep) (book : BookState) (old now : JournalState) (bench later : Option Contents) (entries : List Entry) : Type 0 where
+  pub added : List Entry
+  pub attempt : ℕ
+  pub few : length added + 1 ≤ retries rule + 1
+  pub asked : AreAsked rule p entries added
+  pub waits : answer rule (entries ++ added) p ≡ Next attempt
+  pub appended : HasAppended old now entries added
+  pub stands : StandsFor book (entries ++ added)
+  pub broke : Breaks leaves task row added p attempt step bench later
 
 -- what became of a point: its values, which were written, its end after so many attempts, or an attempt that wasn't kept
-abbrev pub Settles : Child → FailRule → (p values : List Decimal) → BookState → (old now : JournalState) → List Entry → Settled → Type 0
-Settles child rule p values book old now entries settled.Values = ComesTo child rule p (Value values) book old now entries
-Settles child rule p values book old now entries (settled.Dead attempts) = ComesTo child rule p (Dead attempts) book old now entries
-Settles child rule p values book old now entries (settled.Stopped fault) = StopsAt child rule p fault book old now entries
+-- or couldn't be made
+abbrev pub Settles : Leaves → Task → FailRule → (number : ℕ) → (p values : List Decimal) → BookState → (old now : JournalState) → (bench later : Option Contents) → List Entry → Settled → Type 0
+Settles leaves task rule number p values book old now bench later entries settled.Values = ComesTo leaves task rule number p (Value values) book old now bench later entries
+Settles leaves task rule number p values book old now bench later entries (settled.Dead attempts) = ComesTo leaves task rule number p (Dead attempts) book old now bench later entries
+Settles leaves task rule number p values book old now bench later entries (settled.Stopped (stop.Append fault)) = StopsAt leaves task rule number p fault book old now bench later entries
+Settles leaves task rule number p values book old now bench later entries (settled.Stopped (stop.Bench fault)) = BreaksAt leaves task rule number p fault.step book old now bench later entries
 
 -- the points of cards
 abbrev pub points_of : List Card → List (List Decimal)
@@ -160,36 +171,51 @@ pub record IsOpen (study : Study) (book : BookState) (journal : JournalState) : 
   pub responses : book.responses ≡ length study.responses.labels
   pub some : KeepSome book journal
 
--- An evaluation under way: these entries were appended behind those of before, each where the study waited for it, the
--- book stands for all of them, and the rows so far are what they come to.
-pub record IsRunning (study : Study) (child : Child) (start : JournalState) (before added : List Entry) (book : BookState) (now : JournalState) (rows : List Row) : Type 0 where
+-- An evaluation under way: these entries were made and appended behind those of before, each where the study waited for it,
+-- the book stands for all of them, and the rows so far are what they come to.
+pub record IsRunning (leaves : Leaves) (study : Study) (start : JournalState) (bench : Option Contents) (before added : List Entry) (book : BookState) (now : JournalState) (later : Option Contents) (rows : List Row) : Type 0 where
   pub of_study : IsOfStudy study start
-  pub appended : HasAppended child start now before added
+  pub appended : HasAppended start now before added
+  pub made : AreMade leaves study before added bench later
   pub stands : StandsFor book (before ++ added)
   pub reaches : Reaches study (said (before ++ added)) rows
   pub waited_for : AreWaitedFor study before added
   pub few : length added ≤ (retries study.interface.rule + 1) * length rows
 
 -- some such evaluation
-pub record Runs (study : Study) (child : Child) (start : JournalState) (before : List Entry) (book : BookState) (now : JournalState) (rows : List Row) : Type 0 where
+pub record Runs (leaves : Leaves) (study : Study) (start : JournalState) (bench : Option Contents) (before : List Entry) (book : BookState) (now : JournalState) (later : Option Contents) (rows : List Row) : Type 0 where
   pub added : List Entry
-  pub running : IsRunning study child start before added book now rows
+  pub running : IsRunning leaves study start bench before added book now later rows
 
--- The study is decided by the entries of before and those that were appended, each where it waited for it.
-pub record Decides (study : Study) (child : Child) (start : JournalState) (before : List Entry) (book : BookState) (now : JournalState) (rows : List Row) (ending : Ending) : Type 0 where
+-- The study is decided by the entries of before and those that were made and appended, each where it waited for it.
+pub record Decides (leaves : Leaves) (study : Study) (start : JournalState) (bench : Option Contents) (before : List Entry) (book : BookState) (now : JournalState) (later : Option Contents) (rows : List Row) (ending : Ending) : Type 0 where
   pub added : List Entry
-  pub appended : HasAppended child start now before added
+  pub appended : HasAppended start now before added
+  pub made : AreMade leaves study before added bench later
   pub stands : StandsFor book (before ++ added)
   pub waited_for : AreWaitedFor study before added
   pub decided : Seq study (before ++ added) rows (Ended ending)
 
 -- An entry wasn't appended: the study waits for it behind the entries of before and those that were appended.
-pub record Halts (study : Study) (child : Child) (start : JournalState) (before : List Entry) (book : BookState) (now : JournalState) (fault : AppendFault) : Type 0 where
+pub record Halts (leaves : Leaves) (study : Study) (start : JournalState) (bench : Option Contents) (before : List Entry) (book : BookState) (now : JournalState) (later : Option Contents) (fault : AppendFault) : Type 0 where
   pub added : List Entry
   pub e : Entry
   pub few : length added + 1 ≤ (retries study.interface.rule + 1) * study.limit
+  pub made : AreMade leaves study before (added ++ e ∷ []) bench later
   pub stands : StandsFor book (before ++ added)
   pub waited_for : AreWaitedFor study before (added ++ e ∷ [])
   pub next : ComesNext start.shape (before ++ added) e
-  pub answer_is : IsAnswerOf child e
-  pub stopped : HasStopped child start now before added e fault
+  pub stopped : HasStopped start now before added e fault
+
+-- An attempt couldn't be made: the study waits for it behind the entries of before and those that were appended.
+pub record Loses (leaves : Leaves) (study : Study) (start : JournalState) (bench : Option Contents) (before : List Entry) (book : BookState) (now : JournalState) (later : Option Contents) (step : BenchStep) : Type 0 where
+  pub added : List Entry
+  pub rows : List Row
+  pub p : List Decimal
+  pub attempt : ℕ
+  pub few : length added + 1 ≤ (retries study.interface.rule + 1) * study.limit
+  pub appended : HasAppended start now before added
+  pub stands : StandsFor book (before ++ added)
+  pub waited_for : AreWaitedFor study before added
+  pub waits : Seq study (before ++ added) rows (Open p attempt)
+  pub broke : AreBroken leaves study before added (length rows + 1) p attempt step bench later

@@ -1,5 +1,7 @@
+pub mod Making
 pub mod Keeping
-pub mod Pools
+pub mod Attempted
 pub mod Evaluated
 pub mod Turns
+pub mod Pools
 pub mod Laws

@@ -5,15 +5,17 @@ use Rattle.dk_types.specs.declared.study.Study.{Study}
 use Rattle.dk_types.specs.declared.entry.Entry.{Entry}
 use Rattle.dk_types.specs.declared.rows.Row.{Row}
 use Rattle.dk_types.specs.Cards.{place_of}
-use Rattle.dk_types.specs.Solo.{Child, with_row}
+use Rattle.dk_types.specs.Solo.{with_row}
+use Rattle.dk_outside.specs.Benches.{Contents, Leaves}
 use Rattle.dk_report.specs.Widths.{HaveWidths}
 use Rattle.dk_book.specs.Books.{BookState}
 use Rattle.dk_journal.specs.Journals.{JournalState}
-use Rattle.dk_evaluate.specs.Evaluated.{Runs, Decides, Halts, row_with, first_row_of, points_of}
+use Rattle.dk_evaluate.specs.Evaluated.{Runs, Decides, Halts, Loses, row_with, first_row_of, points_of}
 use Rattle.dk_evaluate.specs.declared.evaluation.Table.{Table}
 use Rattle.dk_evaluate.specs.declared.evaluation.Prepared.{Prepared}
 use Rattle.dk_evaluate.specs.declared.evaluation.Verdict.{Verdict}
 use Rattle.dk_evaluate.specs.declared.evaluation.Verdict.TheVariants.{Decided, Stopped}
+use Rattle.dk_evaluate.specs.declared.settle.Stop.TheVariants.{Append, Bench}
 
 -- The rows so far, beside a book: each row's point has a card, the first row of each card's point is known, and there is
 -- room for all rows that the study can still have, and for a point and its values.
@@ -44,11 +46,12 @@ pub record GetsRow (p : List Decimal) (old new : List Row) : Type 0 where
   pub rows : new ≡ with_row old p values
 
 -- how an evaluation ended
-abbrev pub EndsRun : Study → Child → (start : JournalState) → (before : List Entry) → BookState → (now : JournalState) → List Row → Verdict → Type 0
-EndsRun study child start before book now rows (Decided ending) = Decides study child start before book now rows ending
-EndsRun study child start before book now rows (Stopped fault) = Halts study child start before book now fault
+abbrev pub EndsRun : Leaves → Study → (start : JournalState) → (bench : Option Contents) → (before : List Entry) → BookState → (now : JournalState) → (later : Option Contents) → List Row → Verdict → Type 0
+EndsRun leaves study start bench before book now later rows (Decided ending) = Decides leaves study start bench before book now later rows ending
+EndsRun leaves study start bench before book now later rows (Stopped (Append fault)) = Halts leaves study start bench before book now later fault
+EndsRun leaves study start bench before book now later rows (Stopped (Bench fault)) = Loses leaves study start bench before book now later fault.step
 
 -- it goes on, or ended
-abbrev pub EndsSo : Study → Child → (start : JournalState) → (before : List Entry) → BookState → (now : JournalState) → List Row → Option Verdict → Type 0
-EndsSo study child start before book now rows None = Runs study child start before book now rows
-EndsSo study child start before book now rows (Some verdict) = EndsRun study child start before book now rows verdict
+abbrev pub EndsSo : Leaves → Study → (start : JournalState) → (bench : Option Contents) → (before : List Entry) → BookState → (now : JournalState) → (later : Option Contents) → List Row → Option Verdict → Type 0
+EndsSo leaves study start bench before book now later rows None = Runs leaves study start bench before book now later rows
+EndsSo leaves study start bench before book now later rows (Some verdict) = EndsRun leaves study start bench before book now later rows verdict

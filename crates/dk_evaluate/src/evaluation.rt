@@ -1,5 +1,8 @@
 // The evaluation of a study, one point after another, over a book and the journal that keeps its attempts.
-ghost use Rattle.std.specs.Prelude.{◌≡◌, ◌+◌, ◌<◌, ◌≤◌, List, [], length, IfOk, None, true};
+ghost use Rattle.std.specs.Prelude.{◌≡◌, ◌+◌, ◌<◌, ◌≤◌, List, [], length, IfOk, Option, None, Some, true};
+ghost use Rattle.dk_outside.specs.Benches.{Contents};
+ghost use Rattle.dk_types.specs.declared.study.Driver.TheVariants.{Direct};
+ghost use Rattle.dk_params.specs.Params.{task_of};
 ghost use Rattle.dk_types.specs.declared.entry.Entry.{Entry};
 ghost use Rattle.dk_types.specs.Planned.{rest, next, At, AnswersBatch};
 ghost use Rattle.dk_types.specs.Sound.{IsSound};
@@ -8,17 +11,18 @@ ghost use Rattle.dk_report.specs.Widths.{HaveWidths};
 ghost use Rattle.dk_journal.specs.Journals.{JournalState};
 ghost use Rattle.dk_evaluate.specs.Keeping.{Keeps};
 ghost use Rattle.dk_evaluate.specs.Evaluated.{IsOpen, Runs, TakesNumber};
+ghost use Rattle.dk_evaluate.specs.Attempted.{IsItsFault};
+ghost use Rattle.dk_evaluate.specs.declared.settle.Stop.{Stop as StopOf};
 ghost use Rattle.dk_evaluate.specs.Turns.{IsSoFar, IsPrepared, EndsSo, EndsRun, GetsRow};
 
-use crate::evaluator::Evaluator;
 use crate::ledger::Ledger;
 use crate::rows::RowPool;
-use crate::settle::{Settled, settle};
+use crate::settle::{Settled, Stop, settle};
 use dk_book::{Book, CardId};
-use dk_journal::AppendFault;
+use dk_fork::Station;
 use dk_method::{Planning, plan_of};
 use dk_num::Dec;
-use dk_outside::Disk;
+use dk_outside::{Bench, Disk};
 use dk_types::{Ending, Plan, Planner, Rows, Study};
 use std::alloc::{AllocError, Global};
 
@@ -27,8 +31,8 @@ use std::alloc::{AllocError, Global};
 pub enum Verdict {
     /// The study was decided.
     Decided(Ending),
-    /// An attempt wasn't appended to the journal, and the study waits for it.
-    Stopped(AppendFault),
+    /// The study waits for an attempt that isn't in the journal.
+    Stopped(Stop),
 }
 
 /// An evaluation that ended: the attempts that were made, the rows, and how it ended.
@@ -100,29 +104,35 @@ fn places(book: &Book) -> usize
 
 /// Evaluates the points of a study, one after another, up to the first that has no values under the study's rule. Each
 /// attempt that isn't known is made, and appended to the journal before it counts; one that is known isn't made again.
-pub fn evaluate<K: Disk, E: Evaluator>(
+pub fn evaluate<K: Disk, B: Bench>(
     study: &Study,
-    evaluator: &E,
+    station: &mut Station<B>,
     ledger: Ledger<K>,
     prepared: Prepared,
 ) -> Ran<K>
     requires sound { IsSound study.now }
     requires points { has_points study.now.method ≡ true }
-    requires responses { E.responses evaluator.now ≡ length study.now.responses.labels }
+    requires task { station.old.task ≡ task_of study.now }
     requires opened { IsOpen study.now ledger.book ledger.journal }
     requires prepared { IsPrepared study.now ledger.book prepared }
     ensures ends { (before : List Entry) → Keeps ledger.book ledger.journal before →
-        EndsRun study.now (E.child evaluator.now) ledger.journal before result.ledger.book result.ledger.journal result.rows.rows result.verdict }
+        EndsRun B.leaves study.now ledger.journal (B.held station.old.bench) before result.ledger.book result.ledger.journal (B.held station.new.bench) result.rows.rows result.verdict }
     ensures widths { HaveWidths study.now result.rows.rows }
     ensures variables { result.ledger.book.variables ≡ length study.now.variables.labels }
     ensures responses { result.ledger.book.responses ≡ length study.now.responses.labels }
+    ensures task { station.new.task ≡ station.old.task }
+    ensures slot { station.new.slot ≡ station.old.slot }
+    ensures direct { study.now.interface.driver ≡ Direct → station.new.bench ≡ station.old.bench }
+    ensures after { B.after station.old.bench station.new.bench }
+    ensures cause { (stop : StopOf) → result.verdict ≡ Verdict.Stopped stop → IsItsFault station.old.slot (B.faults station.old.bench) (B.faults station.new.bench) stop }
+    ensures later { B.faults station.old.bench ≤ B.faults station.new.bench }
 {
     let Prepared {
         mut planning,
         table,
     } = prepared;
     let mut run = Evaluation { ledger, table };
-    let verdict = evaluate_batches(evaluator, &mut planning, study, &mut run);
+    let verdict = evaluate_batches(station, &mut planning, study, &mut run);
     Ran {
         ledger: run.ledger,
         rows: run.table.rows,
@@ -131,32 +141,36 @@ pub fn evaluate<K: Disk, E: Evaluator>(
 }
 
 /// Evaluates one batch of points after another, up to the end, and adds their rows.
-fn evaluate_batches<K: Disk, E: Evaluator>(
-    evaluator: &E,
+fn evaluate_batches<K: Disk, B: Bench>(
+    station: &mut Station<B>,
     planning: &mut Planning,
     study: &Study,
     run: &mut Evaluation<K>,
 ) -> Verdict
     requires sound { IsSound study.now }
     requires points { has_points study.now.method ≡ true }
-    requires responses { E.responses evaluator.now ≡ length study.now.responses.labels }
+    requires task { station.old.task ≡ task_of study.now }
     requires planned { planning.old ≡ record { study = study.now; before = 0; count = 0 } }
     requires opened { IsOpen study.now run.old.ledger.book run.old.ledger.journal }
     requires so_far { IsSoFar study.now run.old.ledger.book run.old.table }
     requires none { run.old.table.rows.rows ≡ [] }
-    ensures ends { (start : JournalState) (before : List Entry) → Runs study.now (E.child evaluator.now) start before run.old.ledger.book run.old.ledger.journal run.old.table.rows.rows →
-        EndsRun study.now (E.child evaluator.now) start before run.new.ledger.book run.new.ledger.journal run.new.table.rows.rows result }
+    ensures ends { (start : JournalState) (bench : Option Contents) (before : List Entry) → Runs B.leaves study.now start bench before run.old.ledger.book run.old.ledger.journal (B.held station.old.bench) run.old.table.rows.rows →
+        EndsRun B.leaves study.now start bench before run.new.ledger.book run.new.ledger.journal (B.held station.new.bench) run.new.table.rows.rows result }
     ensures widths { HaveWidths study.now run.new.table.rows.rows }
     ensures variables { run.new.ledger.book.variables ≡ length study.now.variables.labels }
     ensures responses { run.new.ledger.book.responses ≡ length study.now.responses.labels }
+    ensures task { station.new.task ≡ station.old.task }
+    ensures slot { station.new.slot ≡ station.old.slot }
+    ensures direct { study.now.interface.driver ≡ Direct → station.new.bench ≡ station.old.bench }
+    ensures after { B.after station.old.bench station.new.bench }
+    ensures cause { (stop : StopOf) → result ≡ Verdict.Stopped stop → IsItsFault station.old.slot (B.faults station.old.bench) (B.faults station.new.bench) stop }
+    ensures later { B.faults station.old.bench ≤ B.faults station.new.bench }
 {
     loop {
         match planning.next(&run.table.rows) {
             Plan::Finished(why) => return Verdict::Decided(Ending::Finished(why)),
             Plan::Batch { first, count } => {
-                if let Some(verdict) = evaluate_batch(
-                    evaluator, planning, study, first, count, run,
-                ) {
+                if let Some(verdict) = evaluate_batch(station, planning, study, first, count, run) {
                     return verdict;
                 }
             }
@@ -165,8 +179,8 @@ fn evaluate_batches<K: Disk, E: Evaluator>(
 }
 
 /// Evaluates the points of a batch up to the first that has no values, and adds their rows.
-fn evaluate_batch<K: Disk, E: Evaluator, P: Planner>(
-    evaluator: &E,
+fn evaluate_batch<K: Disk, B: Bench, P: Planner>(
+    station: &mut Station<B>,
     planner: &P,
     study: &Study,
     first: u32,
@@ -174,7 +188,7 @@ fn evaluate_batch<K: Disk, E: Evaluator, P: Planner>(
     run: &mut Evaluation<K>,
 ) -> Option<Verdict>
     requires sound { IsSound study.now }
-    requires responses { E.responses evaluator.now ≡ length study.now.responses.labels }
+    requires task { station.old.task ≡ task_of study.now }
     requires opened { IsOpen study.now run.old.ledger.book run.old.ledger.journal }
     requires so_far { IsSoFar study.now run.old.ledger.book run.old.table }
     requires study { P.study planner.now ≡ study.now }
@@ -182,18 +196,24 @@ fn evaluate_batch<K: Disk, E: Evaluator, P: Planner>(
     requires batch { P.batch planner.now ≡ rest study.now run.old.table.rows.rows }
     requires first { first ≡ length run.old.table.rows.rows + 1 }
     requires count { count ≡ length (rest study.now run.old.table.rows.rows) }
-    ensures ends { (start : JournalState) (before : List Entry) → Runs study.now (E.child evaluator.now) start before run.old.ledger.book run.old.ledger.journal run.old.table.rows.rows →
-        EndsSo study.now (E.child evaluator.now) start before run.new.ledger.book run.new.ledger.journal run.new.table.rows.rows result }
+    ensures ends { (start : JournalState) (bench : Option Contents) (before : List Entry) → Runs B.leaves study.now start bench before run.old.ledger.book run.old.ledger.journal (B.held station.old.bench) run.old.table.rows.rows →
+        EndsSo B.leaves study.now start bench before run.new.ledger.book run.new.ledger.journal (B.held station.new.bench) run.new.table.rows.rows result }
     ensures answers { result ≡ None → AnswersBatch run.old.table.rows.rows (rest study.now run.old.table.rows.rows) run.new.table.rows.rows }
     ensures opened { result ≡ None → IsOpen study.now run.new.ledger.book run.new.ledger.journal }
     ensures so_far { result ≡ None → IsSoFar study.now run.new.ledger.book run.new.table }
     ensures widths { HaveWidths study.now run.new.table.rows.rows }
     ensures variables { run.new.ledger.book.variables ≡ length study.now.variables.labels }
     ensures responses { run.new.ledger.book.responses ≡ length study.now.responses.labels }
+    ensures task { station.new.task ≡ station.old.task }
+    ensures slot { station.new.slot ≡ station.old.slot }
+    ensures direct { study.now.interface.driver ≡ Direct → station.new.bench ≡ station.old.bench }
+    ensures after { B.after station.old.bench station.new.bench }
+    ensures cause { (stop : StopOf) → result ≡ Some (Verdict.Stopped stop) → IsItsFault station.old.slot (B.faults station.old.bench) (B.faults station.new.bench) stop }
+    ensures later { B.faults station.old.bench ≤ B.faults station.new.bench }
 {
     for row in first..first + count {
         planner.point(row, &mut run.table.point);
-        if let Some(verdict) = evaluate_point(evaluator, study, run) {
+        if let Some(verdict) = evaluate_point(station, study, run) {
             return Some(verdict);
         }
     }
@@ -201,34 +221,41 @@ fn evaluate_batch<K: Disk, E: Evaluator, P: Planner>(
 }
 
 /// Evaluates the point that was written, and adds its row; or tells how the evaluation ends with it.
-fn evaluate_point<K: Disk, E: Evaluator>(
-    evaluator: &E,
+fn evaluate_point<K: Disk, B: Bench>(
+    station: &mut Station<B>,
     study: &Study,
     run: &mut Evaluation<K>,
 ) -> Option<Verdict>
     requires sound { IsSound study.now }
-    requires responses { E.responses evaluator.now ≡ length study.now.responses.labels }
+    requires task { station.old.task ≡ task_of study.now }
     requires opened { IsOpen study.now run.old.ledger.book run.old.ledger.journal }
     requires so_far { IsSoFar study.now run.old.ledger.book run.old.table }
     requires left { length run.old.table.rows.rows < study.now.limit }
-    ensures ends { (start : JournalState) (before : List Entry) → Runs study.now (E.child evaluator.now) start before run.old.ledger.book run.old.ledger.journal run.old.table.rows.rows →
+    ensures ends { (start : JournalState) (bench : Option Contents) (before : List Entry) → Runs B.leaves study.now start bench before run.old.ledger.book run.old.ledger.journal (B.held station.old.bench) run.old.table.rows.rows →
         next study.now run.old.table.rows.rows ≡ At run.old.table.point.items →
-        EndsSo study.now (E.child evaluator.now) start before run.new.ledger.book run.new.ledger.journal run.new.table.rows.rows result }
+        EndsSo B.leaves study.now start bench before run.new.ledger.book run.new.ledger.journal (B.held station.new.bench) run.new.table.rows.rows result }
     ensures row { result ≡ None → GetsRow run.old.table.point.items run.old.table.rows.rows run.new.table.rows.rows }
     ensures opened { result ≡ None → IsOpen study.now run.new.ledger.book run.new.ledger.journal }
     ensures so_far { result ≡ None → IsSoFar study.now run.new.ledger.book run.new.table }
     ensures widths { HaveWidths study.now run.new.table.rows.rows }
     ensures variables { run.new.ledger.book.variables ≡ length study.now.variables.labels }
     ensures responses { run.new.ledger.book.responses ≡ length study.now.responses.labels }
+    ensures task { station.new.task ≡ station.old.task }
+    ensures slot { station.new.slot ≡ station.old.slot }
+    ensures direct { study.now.interface.driver ≡ Direct → station.new.bench ≡ station.old.bench }
+    ensures after { B.after station.old.bench station.new.bench }
+    ensures cause { (stop : StopOf) → result ≡ Some (Verdict.Stopped stop) → IsItsFault station.old.slot (B.faults station.old.bench) (B.faults station.new.bench) stop }
+    ensures later { B.faults station.old.bench ≤ B.faults station.new.bench }
 {
     let card = run.ledger.book.place(&run.table.point);
     let number = run.table.rows.count() + 1;
     let rule = &study.interface.rule;
     match settle(
-        evaluator,
+        station,
         &mut run.ledger,
         rule,
         card,
+        number,
         &run.table.point,
         &mut run.table.values,
     ) {
@@ -236,7 +263,7 @@ fn evaluate_point<K: Disk, E: Evaluator>(
             evaluation: number,
             attempts,
         })),
-        Settled::Stopped(fault) => Some(Verdict::Stopped(fault)),
+        Settled::Stopped(stop) => Some(Verdict::Stopped(stop)),
         Settled::Values => {
             let first = first_row(&mut run.table.firsts, card, number);
             run.table

@@ -2,15 +2,14 @@
 #![tactic(auto)]
 
 pub mod evaluation;
-pub mod evaluator;
 pub mod laws;
 pub mod ledger;
 pub mod rows;
-mod settle;
+pub mod settle;
 #[cfg(test)]
 mod tests;
 
 pub use evaluation::{Prepared, Ran, Verdict, evaluate, prepare};
-pub use evaluator::{Direct, Evaluator, Reading};
 pub use ledger::Ledger;
 pub use rows::RowPool;
+pub use settle::Stop;

@@ -1,22 +1,32 @@
 // The attempts of one point.
-ghost use Rattle.std.specs.Prelude.{◌≡◌, ◌+◌, ◌≤◌, List, length, slice_get, option_map, IfSome, OnOk, OnErr, IsErrOf, Some};
-ghost use Rattle.dk_outside.specs.Causes.{Rose};
+ghost use Rattle.std.specs.Prelude.{◌≡◌, ◌+◌, ◌≤◌, ℕ, List, length, slice_get, option_map, IfSome, IfErr, Some, None};
 ghost use Rattle.dk_types.specs.declared.entry.Entry.{Entry};
-ghost use Rattle.dk_types.specs.Entries.{values_of};
+ghost use Rattle.dk_types.specs.declared.study.Driver.TheVariants.{Direct};
 ghost use Rattle.dk_types.specs.Sound.{IsSoundRule};
-ghost use Rattle.dk_book.specs.Books.{IsBook, IsDue, with_attempt, room_taken};
-ghost use Rattle.dk_journal.specs.declared.fault.AppendFault.{AppendFault};
-ghost use Rattle.dk_journal.specs.Journals.{ComesNext};
-ghost use Rattle.dk_evaluate.specs.Keeping.{Keeps, KeepSome, KeepsOne, AreAlike, WaitsFor, entry_with};
+ghost use Rattle.dk_book.specs.Books.{IsBook, IsDue};
+ghost use Rattle.dk_journal.specs.Journals.{IsReadyFor};
+ghost use Rattle.dk_evaluate.specs.Keeping.{Keeps, KeepSome, AreAlike, WaitsFor, entry_with};
 ghost use Rattle.dk_evaluate.specs.Evaluated.{Settles, SettlesBook};
+ghost use Rattle.dk_evaluate.specs.Attempted.{Attempted, KeptSo, IsItsFault, said_as};
+ghost use Rattle.dk_evaluate.specs.declared.settle.Stop.{Stop as StopOf};
 
-use crate::evaluator::{Evaluator, Reading};
 use crate::ledger::Ledger;
 use dk_book::{Answer, CardId};
+use dk_fork::{BenchFault, Job, Station};
 use dk_journal::AppendFault;
 use dk_num::Dec;
-use dk_outside::Disk;
+use dk_outside::{Bench, Disk};
+use dk_results::Reading;
 use dk_types::{FailRule, Outcome};
+
+/// Why an attempt for which the study waits isn't in the journal.
+#[derive(Clone, Copy, Debug, PartialEq, Eq)]
+pub enum Stop {
+    /// It was made, and not appended.
+    Append(AppendFault),
+    /// A call of its bench failed.
+    Bench(BenchFault),
+}
 
 /// What became of a point.
 #[derive(Clone, Copy, Debug, PartialEq, Eq)]
@@ -25,17 +35,18 @@ pub enum Settled {
     Values,
     /// It has none, after so many attempts.
     Dead { attempts: u32 },
-    /// One of its attempts wasn't appended to the journal.
-    Stopped(AppendFault),
+    /// One of its attempts isn't in the journal.
+    Stopped(Stop),
 }
 
-/// Attempts a point until its attempts come to its values, which are written, or to its end after so many attempts. Each
-/// attempt is in the journal before it counts.
-pub fn settle<K: Disk, E: Evaluator>(
-    evaluator: &E,
+/// Attempts the point of a row until its attempts come to its values, which are written, or to its end after so many
+/// attempts. Each attempt is in the journal before it counts.
+pub fn settle<K: Disk, B: Bench>(
+    station: &mut Station<B>,
     ledger: &mut Ledger<K>,
     rule: &FailRule,
     card: CardId,
+    row: u32,
     point: &[Dec],
     values: &mut [Dec],
 ) -> Settled
@@ -43,15 +54,22 @@ pub fn settle<K: Disk, E: Evaluator>(
     requires keeps { KeepSome ledger.old.book ledger.old.journal }
     requires alike { AreAlike ledger.old.book ledger.old.journal }
     requires width { length point.now ≡ ledger.old.book.variables }
-    requires responses { E.responses evaluator.now ≡ ledger.old.book.responses }
+    requires variables { ledger.old.book.variables ≡ length station.old.task.variables }
+    requires responses { ledger.old.book.responses ≡ length station.old.task.responses }
     requires rule { IsSoundRule ledger.old.book.responses rule.now }
     requires card { option_map (λ c. c.point) (slice_get ledger.old.book.cards card.index) ≡ Some point.now }
     requires values { length values.old ≡ ledger.old.book.responses }
     requires room { 1 ≤ ledger.old.book.room }
     ensures settles { (entries : List Entry) → Keeps ledger.old.book ledger.old.journal entries →
-        Settles (E.child evaluator.now) rule.now point.now values.new ledger.new.book ledger.old.journal ledger.new.journal entries result }
+        Settles B.leaves station.old.task rule.now row point.now values.new ledger.new.book ledger.old.journal ledger.new.journal (B.held station.old.bench) (B.held station.new.bench) entries result }
     ensures values { length values.new ≡ length values.old }
     ensures book { SettlesBook ledger.old.book ledger.new.book }
+    ensures task { station.new.task ≡ station.old.task }
+    ensures slot { station.new.slot ≡ station.old.slot }
+    ensures direct { station.old.task.interface.driver ≡ Direct → station.new.bench ≡ station.old.bench }
+    ensures after { B.after station.old.bench station.new.bench }
+    ensures cause { (stop : StopOf) → result ≡ Settled.Stopped stop → IsItsFault station.old.slot (B.faults station.old.bench) (B.faults station.new.bench) stop }
+    ensures later { B.faults station.old.bench ≤ B.faults station.new.bench }
 {
     loop {
         match ledger.book.answer(rule, card) {
@@ -61,9 +79,10 @@ pub fn settle<K: Disk, E: Evaluator>(
             }
             Answer::Dead { attempts } => return Settled::Dead { attempts },
             Answer::Next { attempt } => {
-                match attempt_point(evaluator, ledger, card, attempt, point, values) {
+                let job = Job { row, attempt };
+                match attempt_point(station, ledger, card, &job, point) {
                     Ok(()) => {}
-                    Err(fault) => return Settled::Stopped(fault),
+                    Err(stop) => return Settled::Stopped(stop),
                 }
             }
         }
@@ -71,40 +90,58 @@ pub fn settle<K: Disk, E: Evaluator>(
 }
 
 /// Makes the next attempt of a point, and keeps what it gave.
-fn attempt_point<K: Disk, E: Evaluator>(
-    evaluator: &E,
+fn attempt_point<K: Disk, B: Bench>(
+    station: &mut Station<B>,
     ledger: &mut Ledger<K>,
     card: CardId,
-    attempt: u32,
+    job: &Job,
     point: &[Dec],
-    values: &mut [Dec],
-) -> Result<(), AppendFault>
+) -> Result<(), Stop>
     requires card { option_map (λ c. c.point) (slice_get ledger.old.book.cards card.index) ≡ Some point.now }
-    requires due { IfSome (slice_get ledger.old.book.cards card.index) (λ c. IsDue c attempt) }
+    requires due { IfSome (slice_get ledger.old.book.cards card.index) (λ c. IsDue c job.now.attempt) }
     requires book { IsBook ledger.old.book }
-    requires responses { E.responses evaluator.now ≡ ledger.old.book.responses }
-    requires values { length values.old ≡ ledger.old.book.responses }
+    requires variables { length point.now ≡ length station.old.task.variables }
+    requires responses { ledger.old.book.responses ≡ length station.old.task.responses }
     requires room { 1 ≤ ledger.old.book.room }
     requires alike { AreAlike ledger.old.book ledger.old.journal }
-    requires waits { WaitsFor ledger.old.journal point.now attempt }
-    ensures keeps { (entries : List Entry) → Keeps ledger.old.book ledger.old.journal entries → ComesNext ledger.old.journal.shape entries (entry_with point.now attempt (E.child evaluator.now point.now attempt)) →
-        KeepsOne ledger.old.book ledger.new.book ledger.old.journal ledger.new.journal entries (entry_with point.now attempt (E.child evaluator.now point.now attempt)) result }
-    ensures cards { OnOk result (ledger.new.book.cards ≡ with_attempt ledger.old.book.cards card.index (E.child evaluator.now point.now attempt)) }
-    ensures room { OnOk result (ledger.new.book.room + room_taken (E.child evaluator.now point.now attempt) ≡ ledger.old.book.room) }
-    ensures spare { OnOk result (ledger.new.book.spare ≡ ledger.old.book.spare) }
-    ensures variables { OnOk result (ledger.new.book.variables ≡ ledger.old.book.variables) }
-    ensures responses { OnOk result (ledger.new.book.responses ≡ ledger.old.book.responses) }
-    ensures book { IsBook ledger.new.book }
-    ensures same_book { OnErr result (ledger.new.book ≡ ledger.old.book) }
-    ensures disk { IsErrOf result AppendFault.Disk → Rose ledger.old.journal.faults ledger.new.journal.faults }
-    ensures later { ledger.old.journal.faults ≤ ledger.new.journal.faults }
-    ensures shape { ledger.new.journal.shape ≡ ledger.old.journal.shape }
-    ensures limit { ledger.new.journal.limit ≡ ledger.old.journal.limit }
-    ensures values { length values.new ≡ length values.old }
-    ensures wide { IfSome (values_of (E.child evaluator.now point.now attempt)) (λ given. length given ≡ ledger.old.book.responses) }
+    requires waits { WaitsFor ledger.old.journal point.now job.now.attempt }
+    ensures attempted { Attempted B.leaves station.old.task job.now.row card.index point.now job.now.attempt ledger.old.book ledger.new.book ledger.old.journal ledger.new.journal (B.held station.old.bench) (B.held station.new.bench) result }
+    ensures task { station.new.task ≡ station.old.task }
+    ensures slot { station.new.slot ≡ station.old.slot }
+    ensures direct { station.old.task.interface.driver ≡ Direct → station.new.bench ≡ station.old.bench }
+    ensures after { B.after station.old.bench station.new.bench }
+    ensures cause { IfErr result (λ stop. IsItsFault station.old.slot (B.faults station.old.bench) (B.faults station.new.bench) stop) }
+    ensures later { B.faults station.old.bench ≤ B.faults station.new.bench }
 {
-    match evaluator.attempt(point, attempt, values) {
-        Reading::Values => ledger.keep(card, attempt, point, Outcome::Values(values)),
+    match station.attempt(job, point) {
+        Ok(reading) => keep_reading(station, ledger, card, job, point, reading),
+        Err(fault) => Err(Stop::Bench(fault)),
+    }
+}
+
+/// Keeps what an attempt gave.
+fn keep_reading<K: Disk, B: Bench>(
+    station: &Station<B>,
+    ledger: &mut Ledger<K>,
+    card: CardId,
+    job: &Job,
+    point: &[Dec],
+    reading: Reading,
+) -> Result<(), Stop>
+    requires card { option_map (λ c. c.point) (slice_get ledger.old.book.cards card.index) ≡ Some point.now }
+    requires due { IfSome (slice_get ledger.old.book.cards card.index) (λ c. IsDue c job.now.attempt) }
+    requires values { length station.now.values ≡ ledger.old.book.responses }
+    requires room { 1 ≤ ledger.old.book.room }
+    requires ready { IsReadyFor ledger.old.journal (entry_with point.now job.now.attempt (said_as reading station.now.values)) }
+    ensures kept { KeptSo (said_as reading station.now.values) card.index point.now job.now.attempt ledger.old.book ledger.new.book ledger.old.journal ledger.new.journal result }
+{
+    let attempt = job.attempt;
+    let kept = match reading {
+        Reading::Values => ledger.keep(card, attempt, point, Outcome::Values(station.values())),
         Reading::Failed => ledger.keep(card, attempt, point, Outcome::Failed),
+    };
+    match kept {
+        Ok(()) => Ok(()),
+        Err(fault) => Err(Stop::Append(fault)),
     }
 }

@@ -4,6 +4,7 @@ use Rattle.std.specs.Prelude.{IfSome, Result, Ok, Err}
 use Rattle.std.proofs.lemmas.Grind.{common_steps}
 use Rattle.dk_lex.proofs.Uniqueness.{each_text_lexes}
 use Rattle.dk_types.specs.declared.study.Study.{Study}
+use Rattle.dk_types.specs.declared.study.Driver.TheVariants.{Direct}
 use Rattle.dk_types.specs.Sound.{IsSound}
 use Rattle.dk_grammar.specs.Grammar.{tree_of}
 use Rattle.dk_reader.specs.declared.document.Document.{Document}
@@ -16,7 +17,7 @@ use Rattle.dk_reader.specs.declared.fault.StudyKind.TheVariants.{TooLong, Unsupp
 use Rattle.dk_reader.specs.Reading.{Reads, HasFault, Says, EachTextSays}
 use Rattle.dk_reader.proofs.Says.{each_says}
 use Rattle.dk_runner.specs.Accepted.{Accepts, Refused, too_long, faulty, unbuilt, serves, at_beginning}
-use Rattle.dk_runner.specs.Headline.{WithoutTable}
+use Rattle.dk_runner.specs.Headline.{WithoutTable, WithoutDriver}
 use Rattle.dk_words.specs.declared.purpose.Purpose.{Purpose}
 use Rattle.dk_words.specs.declared.purpose.Purpose.TheVariants.{Run}
 
@@ -108,6 +109,23 @@ without_table (Some text) study accepts leaves = λ other reads none.
 pub untouched_table : {untouched : Type 0} (left : Option (List ℕ)) → untouched → IfSome left (λ text. WithoutTable text untouched)
 untouched_table None is = tt
 untouched_table (Some text) is = λ study reads none. is
+
+-- benches that stay as they are without a driver stay so where the text says such a study
+pub without_driver : {untouched : Type 0} (left : Option (List ℕ)) (study : Study) → IfSome left (λ text. Accepts Run text study) → (study.interface.driver ≡ Direct → untouched) →
+    IfSome left (λ text. WithoutDriver text untouched)
+without_driver None study accepts leaves = tt
+without_driver (Some text) study accepts leaves = λ other takes direct.
+    leaves (ap (λ (s : Study). s.interface.driver) (one_study text study other accepts.reads takes.reads) ∙ direct)
+
+-- benches that stay as they are in any case stay so
+pub untouched_benches : {untouched : Type 0} (left : Option (List ℕ)) → untouched → IfSome left (λ text. WithoutDriver text untouched)
+untouched_benches None is = tt
+untouched_benches (Some text) is = λ study accepts direct. is
+
+-- what stays without a driver stays in what follows from it
+pub benches_without : {first all : Type 0} (left : Option (List ℕ)) → (first → all) → IfSome left (λ text. WithoutDriver text first) → IfSome left (λ text. WithoutDriver text all)
+benches_without None f is = tt
+benches_without (Some text) f is = λ study accepts direct. f (is study accepts direct)
 
 -- a study that a text says is sound
 pub reads_sound : (text : List ℕ) (study : Study) → Reads text study → IsSound study

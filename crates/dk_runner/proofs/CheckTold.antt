@@ -9,7 +9,7 @@ use Rattle.dk_runner.specs.Headline.{TellsRefusal}
 use Rattle.dk_runner.specs.Checked.{EndsAccepted, Stage, ChecksSo}
 use Rattle.dk_words.specs.declared.purpose.Purpose.TheVariants.{Check}
 use Rattle.dk_runner.specs.declared.status.Status.{Status}
-use Rattle.dk_runner.specs.declared.status.Status.TheVariants.{Finished, Aborted, Usage, StudyRefused, SourceFault, RestartRefused, DiskFault, RestartFull, SinkFault, NoMemory}
+use Rattle.dk_runner.specs.declared.status.Status.TheVariants.{Finished, Aborted, Usage, StudyRefused, SourceFault, RestartRefused, DiskFault, RestartFull, BenchFault, SinkFault, NoMemory}
 use Rattle.dk_runner.specs.declared.status.Which.TheVariants.{Table, Out}
 use Rattle.dk_runner.proofs.Accepts.{not_both}
 use Rattle.dk_runner.proofs.Texts.{told, always, not_misused}
@@ -29,6 +29,7 @@ module _ (s : Stage) where
   refusal_told (RestartRefused fault) h is source = absurd h.0
   refusal_told DiskFault h is source = absurd h.0
   refusal_told (RestartFull size) h is source = absurd h.0
+  refusal_told (BenchFault fault) h is source = absurd h.0
   refusal_told (SinkFault Table) h is source = absurd h.0
   refusal_told (SinkFault Out) h is source = told s.left (λ text t. accepted Check text t.study (SinkFault Out) t.accepts) h.2
   refusal_told NoMemory h is source = always s.left (λ text fault refused. inr refl)
@@ -43,6 +44,7 @@ module _ (s : Stage) where
   accepted_told (RestartRefused fault) h is source out = absurd h.0
   accepted_told DiskFault h is source out = absurd h.0
   accepted_told (RestartFull size) h is source out = absurd h.0
+  accepted_told (BenchFault fault) h is source out = absurd h.0
   accepted_told (SinkFault Table) h is source out = absurd h.0
   accepted_told (SinkFault Out) h is source out = absurd (out h.1)
   accepted_told NoMemory h is source out = always s.left (λ text study accepts. inr refl)

@@ -1,8 +1,9 @@
 pub mod Texts
 pub mod Accepts
 pub mod Sessions
-pub mod Opened
 pub mod Room
+pub mod Started
+pub mod Opened
 pub mod Clauses
 pub mod Reported
 pub mod Saying
@@ -10,3 +11,4 @@ pub mod Told
 pub mod CheckTold
 pub mod Over
 pub mod Headers
+pub mod FirstBench

@@ -6,16 +6,17 @@ use Rattle.dk_words.specs.Words.{IsFor}
 use Rattle.dk_words.specs.declared.purpose.Purpose.TheVariants.{Run}
 use Rattle.dk_runner.specs.Accepted.{Accepts}
 use Rattle.dk_runner.specs.Causes.{IsCause}
-use Rattle.dk_runner.specs.Restarts.{Restart}
+use Rattle.dk_outside.specs.Benches.{Leaves}
+use Rattle.dk_runner.specs.Outsides.{Outside}
 use Rattle.dk_runner.specs.Endings.{Scene, EndsSo, EndsStudy, SaysLine}
 use Rattle.dk_runner.specs.declared.status.Status.{Status}
-use Rattle.dk_runner.specs.declared.status.Status.TheVariants.{Finished, Aborted, Usage, StudyRefused, SourceFault, RestartRefused, DiskFault, RestartFull, SinkFault, NoMemory}
+use Rattle.dk_runner.specs.declared.status.Status.TheVariants.{Finished, Aborted, Usage, StudyRefused, SourceFault, RestartRefused, DiskFault, RestartFull, BenchFault, SinkFault, NoMemory}
 use Rattle.dk_runner.specs.declared.status.Which.TheVariants.{Table, Out}
 use Rattle.dk_runner.proofs.Texts.{told}
 
-pub ends_so : (s : Scene) (r : Restart) (untouched uncalled : Type 0) (study : Study) (status : Status) →
-    IsFor Run s.words × IfSome s.left (λ text. Accepts Run text study) → EndsStudy study s r untouched status → EndsSo s r untouched uncalled status
-ends_so s r untouched uncalled study Finished reason h = (
+pub ends_so : (leaves : Leaves) (s : Scene) (o : Outside) (untouched uncalled : Type 0) (study : Study) (status : Status) →
+    IsFor Run s.words × IfSome s.left (λ text. Accepts Run text study) → EndsStudy leaves study s o untouched status → EndsSo leaves s o untouched uncalled status
+ends_so leaves s o untouched uncalled study Finished reason h = (
   reason.0,
   told s.left (λ text accepts. record {
     study = study;
@@ -27,7 +28,7 @@ ends_so s r untouched uncalled study Finished reason h = (
     in_out = h.3.1.1;
   }) reason.1,
 )
-ends_so s r untouched uncalled study Aborted reason h = (
+ends_so leaves s o untouched uncalled study Aborted reason h = (
   reason.0,
   told s.left (λ text accepts. record {
     study = study;
@@ -39,7 +40,7 @@ ends_so s r untouched uncalled study Aborted reason h = (
     in_out = h.3.1.1;
   }) reason.1,
 )
-ends_so s r untouched uncalled study (SinkFault Table) reason h = (
+ends_so leaves s o untouched uncalled study (SinkFault Table) reason h = (
   reason.0,
   h.3.0,
   told s.left (λ text accepts. record {
@@ -51,7 +52,7 @@ ends_so s r untouched uncalled study (SinkFault Table) reason h = (
   }) reason.1,
   h.3.2,
 )
-ends_so s r untouched uncalled study (SinkFault Out) reason h = (
+ends_so leaves s o untouched uncalled study (SinkFault Out) reason h = (
   reason.0,
   h.3.1.0,
   told s.left (λ text accepts. record {
@@ -63,24 +64,26 @@ ends_so s r untouched uncalled study (SinkFault Out) reason h = (
     in_out = h.3.1.1;
   }) reason.1,
 )
-ends_so s r untouched uncalled study (RestartRefused fault) reason h = (reason.0, h.1, h.2, told s.left (λ text accepts. record { study = study; accepts = accepts; is = h.0 }) reason.1)
-ends_so s r untouched uncalled study DiskFault reason h = (reason.0, h.1, h.2, told s.left (λ text accepts. record { study = study; accepts = accepts; is = h.0 }) reason.1)
-ends_so s r untouched uncalled study (RestartFull size) reason h = (reason.0, h.1, h.2, told s.left (λ text accepts. record { study = study; accepts = accepts; is = h.0 }) reason.1)
-ends_so s r untouched uncalled study NoMemory reason h = inr (reason.0, h.1, h.2, told s.left (λ text accepts. record { study = study; accepts = accepts; is = h.0 }) reason.1)
-ends_so s r untouched uncalled study (Usage at) reason h = absurd h.3.1
-ends_so s r untouched uncalled study (StudyRefused fault) reason h = absurd h.3.1
-ends_so s r untouched uncalled study SourceFault reason h = absurd h.3.1
+ends_so leaves s o untouched uncalled study (RestartRefused fault) reason h = (reason.0, h.1, h.2, told s.left (λ text accepts. record { study = study; accepts = accepts; is = h.0 }) reason.1)
+ends_so leaves s o untouched uncalled study DiskFault reason h = (reason.0, h.1, h.2, told s.left (λ text accepts. record { study = study; accepts = accepts; is = h.0 }) reason.1)
+ends_so leaves s o untouched uncalled study (RestartFull size) reason h = (reason.0, h.1, h.2, told s.left (λ text accepts. record { study = study; accepts = accepts; is = h.0 }) reason.1)
+ends_so leaves s o untouched uncalled study (BenchFault fault) reason h = (reason.0, h.1, h.2, told s.left (λ text accepts. record { study = study; accepts = accepts; is = h.0 }) reason.1)
+ends_so leaves s o untouched uncalled study NoMemory reason h = inr (reason.0, h.1, h.2, told s.left (λ text accepts. record { study = study; accepts = accepts; is = h.0 }) reason.1)
+ends_so leaves s o untouched uncalled study (Usage at) reason h = absurd h.3.1
+ends_so leaves s o untouched uncalled study (StudyRefused fault) reason h = absurd h.3.1
+ends_so leaves s o untouched uncalled study SourceFault reason h = absurd h.3.1
 
 -- no study was accepted
-pub ends_early : (s : Scene) (r : Restart) (untouched uncalled : Type 0) (status : Status) → IsCause Run s.words s.left s.source_before s.source_now status →
-    untouched → uncalled → r.book ≡ None → SaysLine s status → EndsSo s r untouched uncalled status
-ends_early s r untouched uncalled Finished cause table file book line = absurd cause
-ends_early s r untouched uncalled Aborted cause table file book line = absurd cause
-ends_early s r untouched uncalled (SinkFault which) cause table file book line = absurd cause
-ends_early s r untouched uncalled (RestartRefused fault) cause table file book line = absurd cause
-ends_early s r untouched uncalled DiskFault cause table file book line = absurd cause
-ends_early s r untouched uncalled (RestartFull size) cause table file book line = absurd cause
-ends_early s r untouched uncalled (Usage at) cause table file book line = ((cause, table, line), file, book)
-ends_early s r untouched uncalled (StudyRefused fault) cause table file book line = ((cause, table, line), file, book)
-ends_early s r untouched uncalled SourceFault cause table file book line = ((cause, table, line), file, book)
-ends_early s r untouched uncalled NoMemory cause table file book line = inl ((cause, table, line), file, book)
+pub ends_early : (leaves : Leaves) (s : Scene) (o : Outside) (untouched uncalled : Type 0) (status : Status) → IsCause Run s.words s.left s.source_before s.source_now status →
+    untouched → uncalled → o.book ≡ None → SaysLine s status → EndsSo leaves s o untouched uncalled status
+ends_early leaves s o untouched uncalled Finished cause table file book line = absurd cause
+ends_early leaves s o untouched uncalled Aborted cause table file book line = absurd cause
+ends_early leaves s o untouched uncalled (SinkFault which) cause table file book line = absurd cause
+ends_early leaves s o untouched uncalled (RestartRefused fault) cause table file book line = absurd cause
+ends_early leaves s o untouched uncalled DiskFault cause table file book line = absurd cause
+ends_early leaves s o untouched uncalled (RestartFull size) cause table file book line = absurd cause
+ends_early leaves s o untouched uncalled (BenchFault fault) cause table file book line = absurd cause
+ends_early leaves s o untouched uncalled (Usage at) cause table file book line = ((cause, table, line), file, book)
+ends_early leaves s o untouched uncalled (StudyRefused fault) cause table file book line = ((cause, table, line), file, book)
+ends_early leaves s o untouched uncalled SourceFault cause table file book line = ((cause, table, line), file, book)
+ends_early leaves s o untouched uncalled NoMemory cause table file book line = inl ((cause, table, line), file, book)

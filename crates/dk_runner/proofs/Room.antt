@@ -42,7 +42,7 @@ used_few shape before (e ∷ added) next =
     let long : length (e ∷ added) * most_record shape ≡ most_record shape + length added * most_record shape = one_more (most_record shape) (length added) in
     omega (arith, rest, first, few, same, long)
 
-behind : (n m : ℕ) (before xs ys : List Entry) → AreNextEntries n m before (xs ++ ys) → AreNextEntries n m (before ++ xs) ys
+pub behind : (n m : ℕ) (before xs ys : List Entry) → AreNextEntries n m before (xs ++ ys) → AreNextEntries n m (before ++ xs) ys
 behind n m before [] ys next = subst (λ (l : List Entry). AreNextEntries n m l ys) (sym (append-nil before)) next
 behind n m before (x ∷ xs) ys next = subst (λ (l : List Entry). AreNextEntries n m l ys) (append_assoc before (x ∷ []) xs) (behind n m (before ++ x ∷ []) xs ys next.1)
 

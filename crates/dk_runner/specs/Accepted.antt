@@ -1,8 +1,6 @@
 -- The studies that are evaluated so far, and which study a text gives for a run or a check, or why none.
-use Rattle.std.specs.Prelude.{◌≡◌, ℕ, ◌<◌, ◌≤◌, Bool, true, false, ◌&&◌, List, length}
+use Rattle.std.specs.Prelude.{◌≡◌, ℕ, ◌<◌, ◌≤◌, Bool, true, false, List, length}
 use Rattle.dk_types.specs.declared.study.Study.{Study}
-use Rattle.dk_types.specs.declared.study.Driver.{Driver}
-use Rattle.dk_types.specs.declared.study.Driver.TheVariants.{Direct}
 use Rattle.dk_types.specs.Points.{has_points}
 use Rattle.dk_reader.specs.Reading.{Reads, HasFault}
 use Rattle.dk_reader.specs.declared.fault.StudyFault.{StudyFault}
@@ -11,14 +9,9 @@ use Rattle.dk_reader.specs.declared.fault.StudyKind.TheVariants.{TooLong, Unsupp
 use Rattle.dk_words.specs.declared.purpose.Purpose.{Purpose}
 use Rattle.dk_words.specs.declared.purpose.Purpose.TheVariants.{Run, Check}
 
--- the program's own function
-abbrev pub is_built_driver : Driver → Bool
-is_built_driver Direct = true
-is_built_driver _ = false
-
 -- the studies that are evaluated so far: those of the four methods whose points are known from the beginning
 abbrev pub is_built : Study → Bool
-is_built study = has_points study.method && is_built_driver study.interface.driver
+is_built study = has_points study.method
 
 -- a run takes the studies that are evaluated so far, and a check takes each study
 abbrev pub serves : Purpose → Study → Bool

@@ -2,6 +2,7 @@
 use Rattle.std.specs.Prelude.{◌≡◌, ◌⊎◌, ℕ, List, Option, None, IfSome}
 use Rattle.dk_outside.specs.Causes.{Rose}
 use Rattle.dk_outside.specs.Sinks.{Held, Grows, GrowsByFront}
+use Rattle.dk_outside.specs.Benches.{Leaves}
 use Rattle.dk_types.specs.declared.study.Study.{Study}
 use Rattle.dk_types.specs.declared.study.Ending.{Ending}
 use Rattle.dk_types.specs.declared.rows.Row.{Row}
@@ -10,12 +11,13 @@ use Rattle.dk_words.specs.Words.{IsFor}
 use Rattle.dk_runner.specs.Causes.{IsCause}
 use Rattle.dk_evaluate.specs.declared.evaluation.Verdict.{Verdict}
 use Rattle.dk_evaluate.specs.declared.evaluation.Verdict.TheVariants.{Decided, Stopped}
-use Rattle.dk_runner.specs.Lines.{line, status_of, status_of_refused}
+use Rattle.dk_runner.specs.Lines.{line, status_of, status_of_stop}
 use Rattle.dk_report.specs.Tables.{HasTable, HasFront}
-use Rattle.dk_runner.specs.Restarts.{Restart, IsDecided, IsRefusedFile, IsDiskFault, IsFull, IsOutOfMemory}
+use Rattle.dk_runner.specs.Outsides.{Outside}
+use Rattle.dk_runner.specs.Restarts.{IsDecided, IsRefusedFile, IsDiskFault, IsFull, IsLost, IsOutOfMemory}
 use Rattle.dk_runner.specs.Headline.{Written, BreaksTable, BreaksSummary, Says, TellsOver}
 use Rattle.dk_runner.specs.declared.status.Status.{Status}
-use Rattle.dk_runner.specs.declared.status.Status.TheVariants.{Finished, Aborted, RestartRefused, DiskFault, RestartFull, SinkFault, NoMemory}
+use Rattle.dk_runner.specs.declared.status.Status.TheVariants.{Finished, Aborted, RestartRefused, DiskFault, RestartFull, BenchFault, SinkFault, NoMemory}
 use Rattle.dk_words.specs.declared.purpose.Purpose.TheVariants.{Run}
 use Rattle.dk_runner.specs.declared.status.Which.TheVariants.{Table, Out}
 
@@ -75,37 +77,40 @@ EndsEarly s untouched status = IsCause Run s.words s.left s.source_before s.sour
 abbrev pub StopsEarly : Scene → (untouched : Type 0) → Status → (why : Study → Type 0) → Type 0
 StopsEarly s untouched status why = IsFor Run s.words × untouched × SaysLine s status × IfSome s.left (λ text. TellsOver text why)
 
--- why a run of an accepted study stopped over its restart file
-abbrev pub IsStop : Study → Restart → Status → Type 0
-IsStop study r (RestartRefused fault) = IsRefusedFile study r fault
-IsStop study r DiskFault = IsDiskFault study r
-IsStop study r (RestartFull size) = IsFull study r size
-IsStop study r NoMemory = IsOutOfMemory study r
-IsStop study r _ = ⊥
+-- why a run of an accepted study stopped over its restart file or its bench
+abbrev pub IsStop : Leaves → Study → Outside → Status → Type 0
+IsStop leaves study o (RestartRefused fault) = IsRefusedFile study o fault
+IsStop leaves study o DiskFault = IsDiskFault leaves study o
+IsStop leaves study o (RestartFull size) = IsFull leaves study o size
+IsStop leaves study o (BenchFault fault) = IsLost leaves study o fault
+IsStop leaves study o NoMemory = IsOutOfMemory leaves study o
+IsStop leaves study o _ = ⊥
 
--- how a run ended: its table is as it was (`untouched`), and its restart file (`uncalled`)
-abbrev pub EndsSo : Scene → Restart → (untouched uncalled : Type 0) → Status → Type 0
-EndsSo s r untouched uncalled Finished = IsFor Run s.words × IfSome s.left (λ text. Written text r Finished s.table_old s.table_new s.out_old s.out_new)
-EndsSo s r untouched uncalled Aborted = IsFor Run s.words × IfSome s.left (λ text. Written text r Aborted s.table_old s.table_new s.out_old s.out_new)
-EndsSo s r untouched uncalled (SinkFault Table) = IsFor Run s.words × Rose s.table_before s.table_now × IfSome s.left (λ text. BreaksTable text r s.table_old s.table_new) × SaysLine s (SinkFault Table)
-EndsSo s r untouched uncalled (SinkFault Out) = IsFor Run s.words × Rose s.out_before s.out_now × IfSome s.left (λ text. BreaksSummary text r s.table_old s.table_new s.out_old s.out_new)
-EndsSo s r untouched uncalled (RestartRefused fault) = StopsEarly s untouched (RestartRefused fault) (λ study. IsStop study r (RestartRefused fault))
-EndsSo s r untouched uncalled DiskFault = StopsEarly s untouched DiskFault (λ study. IsStop study r DiskFault)
-EndsSo s r untouched uncalled (RestartFull size) = StopsEarly s untouched (RestartFull size) (λ study. IsStop study r (RestartFull size))
-EndsSo s r untouched uncalled NoMemory =
-    (EndsEarly s untouched NoMemory × uncalled × (r.book ≡ None)) ⊎ StopsEarly s untouched NoMemory (λ study. IsStop study r NoMemory)
-EndsSo s r untouched uncalled status = EndsEarly s untouched status × uncalled × (r.book ≡ None)
+-- how a run ended: its table is as it was (`untouched`), and its restart file and its benches (`uncalled`)
+abbrev pub EndsSo : Leaves → Scene → Outside → (untouched uncalled : Type 0) → Status → Type 0
+EndsSo leaves s o untouched uncalled Finished = IsFor Run s.words × IfSome s.left (λ text. Written leaves text o Finished s.table_old s.table_new s.out_old s.out_new)
+EndsSo leaves s o untouched uncalled Aborted = IsFor Run s.words × IfSome s.left (λ text. Written leaves text o Aborted s.table_old s.table_new s.out_old s.out_new)
+EndsSo leaves s o untouched uncalled (SinkFault Table) = IsFor Run s.words × Rose s.table_before s.table_now × IfSome s.left (λ text. BreaksTable leaves text o s.table_old s.table_new) × SaysLine s (SinkFault Table)
+EndsSo leaves s o untouched uncalled (SinkFault Out) = IsFor Run s.words × Rose s.out_before s.out_now × IfSome s.left (λ text. BreaksSummary leaves text o s.table_old s.table_new s.out_old s.out_new)
+EndsSo leaves s o untouched uncalled (RestartRefused fault) = StopsEarly s untouched (RestartRefused fault) (λ study. IsStop leaves study o (RestartRefused fault))
+EndsSo leaves s o untouched uncalled DiskFault = StopsEarly s untouched DiskFault (λ study. IsStop leaves study o DiskFault)
+EndsSo leaves s o untouched uncalled (RestartFull size) = StopsEarly s untouched (RestartFull size) (λ study. IsStop leaves study o (RestartFull size))
+EndsSo leaves s o untouched uncalled (BenchFault fault) = StopsEarly s untouched (BenchFault fault) (λ study. IsStop leaves study o (BenchFault fault))
+EndsSo leaves s o untouched uncalled NoMemory =
+    (EndsEarly s untouched NoMemory × uncalled × (o.book ≡ None)) ⊎ StopsEarly s untouched NoMemory (λ study. IsStop leaves study o NoMemory)
+EndsSo leaves s o untouched uncalled status = EndsEarly s untouched status × uncalled × (o.book ≡ None)
 
 -- how a run of an accepted study ended
-abbrev pub EndsStudy : Study → Scene → Restart → (untouched : Type 0) → Status → Type 0
-EndsStudy study s r untouched (RestartRefused fault) = IsStop study r (RestartRefused fault) × untouched × SaysLine s (RestartRefused fault)
-EndsStudy study s r untouched DiskFault = IsStop study r DiskFault × untouched × SaysLine s DiskFault
-EndsStudy study s r untouched (RestartFull size) = IsStop study r (RestartFull size) × untouched × SaysLine s (RestartFull size)
-EndsStudy study s r untouched NoMemory = IsStop study r NoMemory × untouched × SaysLine s NoMemory
-EndsStudy study s r untouched status = (rows : List Row) × (ending : Ending) × IsDecided study r rows ending
+abbrev pub EndsStudy : Leaves → Study → Scene → Outside → (untouched : Type 0) → Status → Type 0
+EndsStudy leaves study s o untouched (RestartRefused fault) = IsStop leaves study o (RestartRefused fault) × untouched × SaysLine s (RestartRefused fault)
+EndsStudy leaves study s o untouched DiskFault = IsStop leaves study o DiskFault × untouched × SaysLine s DiskFault
+EndsStudy leaves study s o untouched (RestartFull size) = IsStop leaves study o (RestartFull size) × untouched × SaysLine s (RestartFull size)
+EndsStudy leaves study s o untouched (BenchFault fault) = IsStop leaves study o (BenchFault fault) × untouched × SaysLine s (BenchFault fault)
+EndsStudy leaves study s o untouched NoMemory = IsStop leaves study o NoMemory × untouched × SaysLine s NoMemory
+EndsStudy leaves study s o untouched status = (rows : List Row) × (ending : Ending) × IsDecided leaves study o rows ending
     × Reports study rows ending s.table_old s.table_new s.table_before s.table_now s.out_old s.out_new s.out_before s.out_now status
 
 -- what a verdict told: the texts of a study that was decided, or the line of what stopped it
 abbrev pub Tells : Study → Scene → (untouched : Type 0) → List Row → Verdict → Status → Type 0
 Tells study s untouched rows (Decided ending) status = Reports study rows ending s.table_old s.table_new s.table_before s.table_now s.out_old s.out_new s.out_before s.out_now status
-Tells study s untouched rows (Stopped fault) status = (status ≡ status_of_refused fault) × untouched × SaysLine s status
+Tells study s untouched rows (Stopped stop) status = (status ≡ status_of_stop stop) × untouched × SaysLine s status

@@ -2,6 +2,8 @@ pub mod Accepted
 pub mod Causes
 pub mod Lines
 pub mod Sessions
+pub mod Outsides
+pub mod Started
 pub mod Restarts
 pub mod Headline
 pub mod Endings

@@ -3,7 +3,11 @@ use Rattle.std.specs.Prelude.{ℕ, Bool, true, false, not, List, [], ◌++◌, c
 use Rattle.dk_types.specs.declared.study.Ending.{Ending}
 use Rattle.dk_types.specs.declared.study.Ending.TheVariants.{Finished as EndingFinished, Aborted as EndingAborted}
 use Rattle.dk_runner.specs.declared.status.Status.{Status}
-use Rattle.dk_runner.specs.declared.status.Status.TheVariants.{Finished, Aborted, Usage, StudyRefused, SourceFault, RestartRefused, DiskFault, RestartFull, SinkFault, NoMemory}
+use Rattle.dk_runner.specs.declared.status.Status.TheVariants.{Finished, Aborted, Usage, StudyRefused, SourceFault, RestartRefused, DiskFault, RestartFull, BenchFault, SinkFault, NoMemory}
+use Rattle.dk_fork.specs.declared.serve.BenchStep.{BenchStep}
+use Rattle.dk_fork.specs.declared.serve.BenchStep.TheVariants.{ClearBefore, Lay, Run as AtRun, Fetch, ClearAfter}
+use Rattle.dk_evaluate.specs.declared.settle.Stop.{Stop}
+use Rattle.dk_evaluate.specs.declared.settle.Stop.TheVariants as stop
 use Rattle.dk_journal.specs.declared.fault.AppendFault.{AppendFault}
 use Rattle.dk_journal.specs.declared.fault.AppendFault.TheVariants as append
 use Rattle.dk_journal.specs.declared.fault.OpenFault.{OpenFault}
@@ -21,6 +25,7 @@ code SourceFault = 4
 code (RestartRefused fault) = 5
 code DiskFault = 6
 code (RestartFull size) = 7
+code (BenchFault fault) = 8
 code (SinkFault which) = 9
 code NoMemory = 10
 
@@ -53,6 +58,14 @@ refusal_text (opening.TooLarge size) = codes "TooLarge (length " ++ (decimal siz
 refusal_text opening.Disk = codes "Disk"
 refusal_text opening.NoMemory = codes "NoMemory"
 
+-- the call of an attempt that failed, as its line has it
+abbrev pub step_text : BenchStep → List ℕ
+step_text ClearBefore = codes "clear"
+step_text Lay = codes "lay"
+step_text AtRun = codes "run"
+step_text Fetch = codes "fetch"
+step_text ClearAfter = codes "clear after"
+
 abbrev pub line : Status → List ℕ
 line Finished = []
 line Aborted = []
@@ -63,6 +76,7 @@ line SourceFault = codes "dakota: study not readable\n"
 line (RestartRefused fault) = codes "dakota: restart refused: " ++ (refusal_text fault ++ codes "\n")
 line DiskFault = codes "dakota: restart file failed\n"
 line (RestartFull size) = codes "dakota: restart file full (length " ++ (decimal size ++ codes ")\n")
+line (BenchFault fault) = codes "dakota: bench " ++ (decimal fault.slot ++ (codes " failed at " ++ (step_text fault.step ++ codes "\n")))
 line (SinkFault Table) = codes "dakota: table not written\n"
 line (SinkFault Out) = []
 line NoMemory = codes "dakota: out of memory\n"
@@ -85,6 +99,7 @@ is_early SourceFault = true
 is_early (RestartRefused fault) = true
 is_early DiskFault = true
 is_early (RestartFull size) = true
+is_early (BenchFault fault) = true
 is_early NoMemory = true
 is_early _ = false
 
@@ -107,6 +122,7 @@ is_read (StudyRefused fault) = not (is_too_long fault.kind)
 is_read (RestartRefused fault) = true
 is_read DiskFault = true
 is_read (RestartFull size) = true
+is_read (BenchFault fault) = true
 is_read (SinkFault which) = true
 is_read _ = false
 
@@ -126,3 +142,8 @@ status_of_fault fault = RestartRefused fault
 abbrev pub status_of_refused : AppendFault → Status
 status_of_refused append.Disk = DiskFault
 status_of_refused (append.Full size) = RestartFull size
+
+-- the status of an attempt that isn't kept
+abbrev pub status_of_stop : Stop → Status
+status_of_stop (stop.Append fault) = status_of_refused fault
+status_of_stop (stop.Bench fault) = BenchFault fault

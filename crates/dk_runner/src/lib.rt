@@ -3,6 +3,7 @@
 #![tactic(auto)]
 
 mod accept;
+mod benches;
 mod built;
 mod checks;
 mod over_file;
@@ -13,6 +14,7 @@ mod status;
 mod tests;
 
 pub use checks::check;
+pub use dk_fork::{BenchFault, BenchStep};
 pub use dk_journal::OpenFault;
 pub use dk_lex::Span;
 pub use dk_reader::{StudyFault, StudyKind};

@@ -1,11 +1,12 @@
 // The line of a status.
 ghost use Rattle.std.specs.Prelude.{◌≡◌, ◌++◌, codes, decimal};
 ghost use Rattle.dk_outside.specs.Flows.{Puts};
-ghost use Rattle.dk_runner.specs.Lines.{line, kind_text, refusal_text};
+ghost use Rattle.dk_runner.specs.Lines.{line, kind_text, refusal_text, step_text};
 ghost use Rattle.dk_runner.specs.Headline.{Says, OnlyGrows};
 ghost use Rattle.dk_runner.specs.declared.status.Status.TheVariants.{Usage, StudyRefused, RestartRefused, RestartFull, SinkFault};
 
 use crate::{Status, StudyFault, StudyKind, Which};
+use dk_fork::{BenchFault, BenchStep};
 use dk_journal::OpenFault;
 use dk_outside::{Sink, Writer};
 use dk_report::put_number;
@@ -49,6 +50,7 @@ fn put_line<U: Sink>(status: &Status, writer: &mut Writer<'_, U>)
         Status::RestartRefused(fault) => put_unopened(fault, writer),
         Status::DiskFault => writer.put(b"dakota: restart file failed\n"),
         Status::RestartFull { length } => put_full(*length, writer),
+        Status::BenchFault(fault) => put_bench(fault, writer),
         Status::SinkFault(which) => put_unwritten(*which, writer),
         Status::NoMemory => writer.put(b"dakota: out of memory\n"),
         Status::Finished | Status::Aborted => {}
@@ -70,6 +72,28 @@ fn put_full<U: Sink>(length: u64, writer: &mut Writer<'_, U>)
     writer.put(b"dakota: restart file full (length ");
     put_number(length as usize, writer);
     writer.put(b")\n");
+}
+
+fn put_bench<U: Sink>(fault: &BenchFault, writer: &mut Writer<'_, U>)
+    ensures { Puts U.held U.faults writer.old writer.new (line (Status.BenchFault fault.now)) }
+{
+    writer.put(b"dakota: bench ");
+    put_number(fault.slot as usize, writer);
+    writer.put(b" failed at ");
+    writer.put(step_name(fault.step));
+    writer.put(b"\n");
+}
+
+fn step_name(step: BenchStep) -> &'static [u8]
+    ensures { result.now ≡ step_text step }
+{
+    match step {
+        BenchStep::ClearBefore => b"clear",
+        BenchStep::Lay => b"lay",
+        BenchStep::Run => b"run",
+        BenchStep::Fetch => b"fetch",
+        BenchStep::ClearAfter => b"clear after",
+    }
 }
 
 fn put_unopened<U: Sink>(fault: &OpenFault, writer: &mut Writer<'_, U>)

@@ -1,4 +1,5 @@
 // How a run ends.
+use dk_fork::BenchFault;
 use dk_journal::OpenFault;
 use dk_reader::StudyFault;
 
@@ -29,6 +30,8 @@ pub enum Status {
     /// With the record that came next the restart file would have this length in bytes, more than 2^28. The study isn't
     /// decided.
     RestartFull { length: u64 },
+    /// A call of a bench failed, in an attempt for which the study waits. The study isn't decided.
+    BenchFault(BenchFault),
     /// The study was decided, and a sink failed while its text was written.
     SinkFault(Which),
     /// There was no memory.
@@ -52,6 +55,7 @@ impl Status {
             Status::RestartRefused(_) => 5,
             Status::DiskFault => 6,
             Status::RestartFull { length: _ } => 7,
+            Status::BenchFault(_) => 8,
             Status::SinkFault(_) => 9,
             Status::NoMemory => 10,
         }

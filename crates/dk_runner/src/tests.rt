@@ -1,6 +1,11 @@
-//! Whole runs over a source, a restart file and sinks in memory.
-mod bench;
+//! Whole runs over a source, a restart file, sinks and benches in memory.
+ghost use Rattle.std.specs.Prelude.{◌≤◌, length};
+ghost use Rattle.std.specs.List.{All};
+ghost use Rattle.dk_runner.specs.Outsides.{AllGoTogether};
+
+mod benches;
 mod checks;
+mod children;
 mod crashes;
 mod files;
 mod long_disk;
@@ -12,11 +17,13 @@ mod studies;
 mod texts;
 
 use crate::{
-    Ended, OpenFault, Span, Status, StudyFault, StudyKind, Which, dakota, usage, write_line,
+    BenchFault, BenchStep, Ended, OpenFault, Span, Status, StudyFault, StudyKind, Which, dakota,
+    usage, write_line,
 };
-use bench::NoBench;
+use benches::{NO_SIMULATION, Simulation, benches_of};
 use dk_book::Book;
-use dk_memory::{Image, MemDisk, MemSink, MemSource};
+use dk_memory::{Image, MemBench, MemDisk, MemSink, MemSource};
+use dk_outside::Bench;
 use std::alloc::{AllocError, Global};
 use std::process::Abort;
 use std::test::Fail;
@@ -91,7 +98,8 @@ const RESUMED: &[&str] = &["-i", "s1.in", "-r", "s1.rst"];
 /// Room for each table and each summary.
 const PLENTY: usize = 100_000_000;
 
-/// What a run left: its status, the book, the restart file's disk, the table, and standard output.
+/// What a run left: its status, the book, the restart file's disk, the table, standard output, how often a simulation ran on
+/// the first bench, and whether none ran on another of the 64.
 #[derive(Drop)]
 struct Left {
     status: Status,
@@ -99,6 +107,8 @@ struct Left {
     disk: MemDisk,
     table: MemSink,
     out: MemSink,
+    runs: usize,
+    others_rest: bool,
 }
 
 impl Left {
@@ -112,19 +122,36 @@ impl Left {
 fn run_within(
     alloc: Global,
     words: &[&str],
-    mut source: MemSource,
+    source: MemSource,
     disk: MemDisk,
     table_room: usize,
     out_room: usize,
 ) -> Result<Left, AllocError> {
+    let benches = benches_of(alloc, NO_SIMULATION, &[])?;
+    run_on(alloc, words, source, disk, (table_room, out_room), benches)
+}
+
+/// A run over a source, a disk and benches, with so much room for the table and on standard output.
+fn run_on(
+    alloc: Global,
+    words: &[&str],
+    mut source: MemSource,
+    disk: MemDisk,
+    rooms: (usize, usize),
+    benches: Vec<MemBench<Simulation>>,
+) -> Result<Left, AllocError>
+    requires count { 64 ≤ length benches.items }
+    requires together { All (λ bench. AllGoTogether (⟦<MemBench<Simulation> as Bench>⟧.together bench)) benches.items }
+{
     let words = words_of(alloc, words)?;
+    let (table_room, out_room) = rooms;
     let mut table = MemSink::sink(alloc, table_room, &[])?;
     let mut out = MemSink::sink(alloc, out_room, &[])?;
     let Ended {
         status,
         book,
         restart,
-        benches: _,
+        benches,
     } = dakota(
         alloc,
         &words,
@@ -132,7 +159,7 @@ fn run_within(
         disk,
         &mut table,
         &mut out,
-        vec![in alloc; NoBench::new()]?,
+        benches,
     );
     Ok(Left {
         status,
@@ -140,6 +167,9 @@ fn run_within(
         disk: restart,
         table,
         out,
+        runs: benches.first().map_or(0, |bench| bench.runs().len()),
+        others_rest: benches.len() == 64
+            && benches[1..].iter().all(|bench| bench.runs().is_empty()),
     })
 }
 
@@ -306,6 +336,10 @@ fn statuses_have_their_codes_and_lines(rt: HostRuntime) -> Result<(), Fail> {
     let full = "dakota: restart file full (length 268435457)\n";
     let failed = "dakota: restart file failed\n";
     let unwritten = "dakota: table not written\n";
+    let slot = 63;
+    let step = BenchStep::ClearAfter;
+    let bench = BenchFault { slot, step };
+    let unclear = "dakota: bench 63 failed at clear after\n";
     for (status, code, line) in [
         (Status::Finished, 0, ""),
         (Status::Aborted, 1, ""),
@@ -315,6 +349,7 @@ fn statuses_have_their_codes_and_lines(rt: HostRuntime) -> Result<(), Fail> {
         (Status::RestartRefused(long), 5, too_long),
         (Status::DiskFault, 6, failed),
         (Status::RestartFull { length }, 7, full),
+        (Status::BenchFault(bench), 8, unclear),
         (Status::SinkFault(Which::Table), 9, unwritten),
         (Status::SinkFault(Which::Out), 9, ""),
         (Status::NoMemory, 10, "dakota: out of memory\n"),

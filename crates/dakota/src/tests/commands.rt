@@ -5,8 +5,8 @@ use dk_real::OutSink;
 use std::alloc::{AllocError, Global};
 use std::fs;
 use std::fs::File;
-use std::process::Abort;
-use std::rt::Files;
+use std::process::{Abort, Processes};
+use std::rt::{Files, Stderr};
 use std::test::Fail;
 
 const STUDY: &str = "s.in";
@@ -47,6 +47,8 @@ const UNWRITTEN: &str = "dakota: table not written\n";
 
 const UNOPENED: &str = "dakota: restart file failed\n";
 
+const UNSTARTED: &str = "dakota: bench 0 failed at run\n";
+
 const NO_RESTART: &str = "dakota: restart refused: NotARestart\n";
 
 /// The restart file of a run, and the one that words name.
@@ -58,13 +60,26 @@ const NAMED: &str = "x.rst";
 const TWO_RECORDS: usize = 147;
 
 /// The step and the words of the interface of studies.
-const PLAIN: (&str, &str) = ("1 1", "direct");
+const PLAIN: (&str, &str) = ("1 1", "'rosenbrock' direct");
 
-const UNEVEN: (&str, &str) = ("0.3333333333 1", "direct");
+const UNEVEN: (&str, &str) = ("0.3333333333 1", "'rosenbrock' direct");
 
-const FORKED: (&str, &str) = ("1 1", "fork");
+const FORKED: (&str, &str) = ("1 1", "'rosenbrock' fork");
 
-const WRONG: (&str, &str) = ("1 1", "direct grid");
+/// A child that leaves 1 for the point whose parameters file has no 1, and else 0.
+const SCRIPTED: (&str, &str) = ("1 1", "'sh child.sh' fork");
+
+/// The same behind a first call that fails.
+const FLAKY: (&str, &str) = ("1 1", "'sh flaky.sh' fork failure_capture retry = 1");
+
+const FLAKY_SCRIPT: &str = "if [ -f $2.count ]; then exec sh child.sh $1 $2; fi
+echo x > $2.count
+echo FAIL > $2
+";
+
+const SCRIPT: &str = "if grep -q '1.000000000000000e+00 x1' $1; then echo 0; else echo 1; fi >$2";
+
+const WRONG: (&str, &str) = ("1 1", "'rosenbrock' direct grid");
 
 /// A study with a table of this name.
 fn study_text(alloc: Global, table: &str, study: (&str, &str)) -> Result<String, AllocError> {
@@ -73,7 +88,7 @@ fn study_text(alloc: Global, table: &str, study: (&str, &str)) -> Result<String,
         "environment tabular_data tabular_data_file = '{table}'
         method vector_parameter_study num_steps = 1 step_vector = {step}
         variables continuous_design = 2 descriptors = 'x1' 'x2'
-        interface analysis_drivers = 'rosenbrock' {interface}
+        interface analysis_drivers = {interface}
         responses objective_functions = 1"
     )
 }
@@ -88,7 +103,7 @@ fn texts(alloc: Global, words: &[&str]) -> Result<Vec<String>, AllocError> {
 
 /// Takes away what an earlier run in this folder may have left.
 fn begin_anew<R: Files>(rt: &R) {
-    for name in [RESTART, NAMED, "hard.in", "soft.in"] {
+    for name in [RESTART, NAMED, "hard.in", "soft.in", "results.out.count"] {
         let _ = fs::remove_file(rt, name);
     }
 }
@@ -104,7 +119,7 @@ type Case = (
     &'static str,
 );
 
-const CASES: [Case; 22] = [
+const CASES: [Case; 21] = [
     (&["-i", STUDY], PLAIN, TABLE, 0, FINISHED, ROWS),
     (&["-input", "./s.in"], PLAIN, TABLE, 0, FINISHED, ROWS),
     (&["-i", STUDY], UNEVEN, TABLE, 1, ABORTED, FIRST_ROW),
@@ -158,14 +173,6 @@ const CASES: [Case; 22] = [
     ),
     (
         &["-i", STUDY],
-        FORKED,
-        TABLE,
-        3,
-        "dakota: study refused: Unsupported at bytes 0..0\n",
-        OLDER,
-    ),
-    (
-        &["-i", STUDY],
         WRONG,
         TABLE,
         3,
@@ -192,9 +199,17 @@ const CASES: [Case; 22] = [
     (&["-i", STUDY], PLAIN, "none/t.dat", 9, UNWRITTEN, OLDER),
 ];
 
+/// Studies over simulations.
+const OVER_SIMULATIONS: [Case; 3] = [
+    (&["-i", STUDY], FORKED, TABLE, 8, UNSTARTED, OLDER),
+    (&["-i", STUDY], SCRIPTED, TABLE, 0, FINISHED, ROWS),
+    (&["-i", STUDY], FLAKY, TABLE, 0, FINISHED, ROWS),
+];
+
 /// A command ends and prints as it should, and leaves its table so.
-fn assert_command<R: Files<File = File> + AllocGlobal + Abort>(
+fn assert_command<R: Files<File = File> + Processes + AllocGlobal + Abort>(
     rt: &R,
+    prints: Stderr,
     words: &[&str],
     left: &str,
     status: u8,
@@ -204,7 +219,7 @@ fn assert_command<R: Files<File = File> + AllocGlobal + Abort>(
     let _ = fs::remove_file(rt, RESTART);
     fs::write(rt, TABLE, OLDER)?;
     let mut page = Page::new(alloc);
-    let ended = carry_out(rt, &texts(alloc, words)?, &mut page);
+    let ended = carry_out(rt, &texts(alloc, words)?, prints, &mut page);
     assert_eq!(rt; page.text(), told.as_bytes());
     assert_eq!(rt; ended.code(), status, "at {told}");
     let file = fs::read(rt, TABLE)?;
@@ -217,10 +232,22 @@ fn commands_end_and_print_as_they_should(rt: HostRuntime) -> Result<(), Fail> {
     begin_anew(&rt);
     for (words, study, table, status, told, left) in CASES {
         fs::write(&rt, STUDY, study_text(rt.alloc(), table, study)?)?;
-        assert_command(&rt, words, left, status, told)?;
+        assert_command(&rt, rt.stderr(), words, left, status, told)?;
     }
     let file = fs::read(&rt, NAMED)?;
     assert_eq!(rt; file.len(), TWO_RECORDS);
+    Ok(())
+}
+
+#[test]
+fn simulations_are_run(rt: HostRuntime) -> Result<(), Fail> {
+    begin_anew(&rt);
+    fs::write(&rt, "child.sh", SCRIPT)?;
+    fs::write(&rt, "flaky.sh", FLAKY_SCRIPT)?;
+    for (words, study, table, status, told, left) in OVER_SIMULATIONS {
+        fs::write(&rt, STUDY, study_text(rt.alloc(), table, study)?)?;
+        assert_command(&rt, rt.stderr(), words, left, status, told)?;
+    }
     Ok(())
 }
 
@@ -239,7 +266,12 @@ fn a_closed_standard_output_is_told_by_the_status(rt: HostRuntime) -> Result<(),
         begin_anew(&rt);
         fs::write(&rt, STUDY, study_text(alloc, TABLE, PLAIN)?)?;
         fs::write(&rt, TABLE, OLDER)?;
-        let ended = carry_out(&rt, &texts(alloc, words)?, &mut OutSink::new(&Closed));
+        let ended = carry_out(
+            &rt,
+            &texts(alloc, words)?,
+            rt.stderr(),
+            &mut OutSink::new(&Closed),
+        );
         assert_eq!(rt; ended.code(), status);
         let file = fs::read(&rt, TABLE)?;
         assert_eq!(rt; file.as_slice(), left.as_bytes());
@@ -260,7 +292,7 @@ fn a_table_cannot_take_the_studys_place(rt: HostRuntime) -> Result<(), Fail> {
         for path in [STUDY, "./s.in", "soft.in"] {
             let _ = fs::remove_file(&rt, RESTART);
             let mut page = Page::new(alloc);
-            let ended = carry_out(&rt, &texts(alloc, &["-i", path])?, &mut page);
+            let ended = carry_out(&rt, &texts(alloc, &["-i", path])?, rt.stderr(), &mut page);
             assert_eq!(rt; ended.code(), 9);
             assert_eq!(rt; page.text(), UNWRITTEN.as_bytes());
             let file = fs::read(&rt, STUDY)?;

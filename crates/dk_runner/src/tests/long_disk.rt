@@ -1,5 +1,5 @@
 // A disk whose file is longer than a restart file may be.
-use super::bench::fail;
+use super::benches::fail;
 use dk_outside::{Disk, Failed};
 
 /// The file has so many bytes. They can't be read or written.

@@ -72,21 +72,11 @@ fn other_texts_are_refused_at_their_place(rt: HostRuntime) -> Result<(), Fail> {
     assert_no_study(&rt, alloc, &long, "TooLong", 0, 0)
 }
 
-/// Studies that aren't evaluated so far are refused as unsupported, at the text's beginning.
+/// A compass search isn't evaluated so far, and is refused as unsupported, at the text's beginning.
 #[test]
-fn studies_that_are_not_built_are_refused(rt: HostRuntime) -> Result<(), Fail> {
+fn a_compass_search_is_refused(rt: HostRuntime) -> Result<(), Fail> {
     let alloc = rt.alloc();
     let search = "compass_search initial_delta = 1 threshold_delta = 0.5";
-    let cases: [&[(&str, &str)]; 2] = [
-        &[(METHOD, search)],
-        &[(
-            "'rosenbrock'\n    direct",
-            "'simulate -v' fork failure_capture retry = 2",
-        )],
-    ];
-    for edits in cases {
-        let text = edited(alloc, edits)?;
-        assert_no_study(&rt, alloc, &text, "Unsupported", 0, 0)?;
-    }
-    Ok(())
+    let text = edited(alloc, &[(METHOD, search)])?;
+    assert_no_study(&rt, alloc, &text, "Unsupported", 0, 0)
 }

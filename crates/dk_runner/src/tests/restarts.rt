@@ -1,5 +1,5 @@
 // The restart file of a run, and runs that go on with one.
-use super::bench::NoBench;
+use super::benches::{NO_SIMULATION, benches_of};
 use super::files::{FILE, GATES, ONE_RECORD};
 use super::long_disk::LongDisk;
 use super::studies::{LISTED, LISTED_TWICE};
@@ -132,7 +132,7 @@ fn a_file_that_is_too_long_is_refused(rt: HostRuntime) -> Result<(), Fail> {
         LongDisk::of(268_435_457),
         &mut table,
         &mut out,
-        vec![in alloc; NoBench::new()]?,
+        benches_of(alloc, NO_SIMULATION, &[])?,
     );
     let line = "dakota: restart refused: TooLarge (length 268435457)\n";
     assert_eq!(rt; ended.status.code(), 5);

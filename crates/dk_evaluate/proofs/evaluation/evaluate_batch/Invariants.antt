@@ -1,4 +1,6 @@
-use Rattle.std.proofs.Common.{◌-◌, List}
+use Rattle.dk_outside.specs.Benches.{Contents}
+use Rattle.dk_types.specs.declared.study.Driver.TheVariants.{Direct}
+use Rattle.std.proofs.Common.{◌≡◌, ◌≤◌, Option, ◌-◌, List}
 use Rattle.dk_types.specs.declared.entry.Entry.{Entry}
 use Rattle.dk_journal.specs.Journals.{JournalState}
 use Rattle.dk_evaluate.specs.Evaluated.{IsOpen, Runs}
@@ -11,6 +13,11 @@ invariant-loop-row g l = record {
   along : IsAlong l.study l.initial.run.table.rows.rows (l.row - l.first) l.run.table.rows.rows;
   opened : IsOpen l.study l.run.ledger.book l.run.ledger.journal;
   so_far : IsSoFar l.study l.run.ledger.book l.run.table;
-  runs : (start : JournalState) (before : List Entry) → Runs l.study (g.E.Evaluator.child l.evaluator) start before l.initial.run.ledger.book l.initial.run.ledger.journal l.initial.run.table.rows.rows →
-      Runs l.study (g.E.Evaluator.child l.evaluator) start before l.run.ledger.book l.run.ledger.journal l.run.table.rows.rows;
+  runs : (start : JournalState) (bench : Option Contents) (before : List Entry) → Runs g.B.Bench.leaves l.study start bench before l.initial.run.ledger.book l.initial.run.ledger.journal (g.B.Bench.held l.initial.station.bench) l.initial.run.table.rows.rows →
+      Runs g.B.Bench.leaves l.study start bench before l.run.ledger.book l.run.ledger.journal (g.B.Bench.held l.station.bench) l.run.table.rows.rows;
+  task : l.station.task ≡ l.initial.station.task;
+  slot : l.station.slot ≡ l.initial.station.slot;
+  direct : l.study.interface.driver ≡ Direct → l.station.bench ≡ l.initial.station.bench;
+  after : g.B.Bench.after l.initial.station.bench l.station.bench;
+  later : g.B.Bench.faults l.initial.station.bench ≤ g.B.Bench.faults l.station.bench;
 }

@@ -1,4 +1,6 @@
-use Rattle.std.proofs.Common.{◌-◌, length, List}
+use Rattle.dk_outside.specs.Benches.{Contents}
+use Rattle.dk_types.specs.declared.study.Driver.TheVariants.{Direct}
+use Rattle.std.proofs.Common.{◌≡◌, ◌≤◌, Option, ◌-◌, length, List}
 use Rattle.dk_types.specs.declared.entry.Entry.{Entry}
 use Rattle.dk_types.specs.Points.{size}
 use Rattle.dk_journal.specs.Journals.{JournalState}
@@ -12,8 +14,13 @@ invariant-loop-why g l = record {
   under_way : IsUnderWay l.study l.planning l.run.table.rows.rows;
   opened : IsOpen l.study l.run.ledger.book l.run.ledger.journal;
   so_far : IsSoFar l.study l.run.ledger.book l.run.table;
-  runs : (start : JournalState) (before : List Entry) → Runs l.study (g.E.Evaluator.child l.evaluator) start before l.initial.run.ledger.book l.initial.run.ledger.journal l.initial.run.table.rows.rows →
-      Runs l.study (g.E.Evaluator.child l.evaluator) start before l.run.ledger.book l.run.ledger.journal l.run.table.rows.rows;
+  runs : (start : JournalState) (bench : Option Contents) (before : List Entry) → Runs g.B.Bench.leaves l.study start bench before l.initial.run.ledger.book l.initial.run.ledger.journal (g.B.Bench.held l.initial.station.bench) l.initial.run.table.rows.rows →
+      Runs g.B.Bench.leaves l.study start bench before l.run.ledger.book l.run.ledger.journal (g.B.Bench.held l.station.bench) l.run.table.rows.rows;
+  task : l.station.task ≡ l.initial.station.task;
+  slot : l.station.slot ≡ l.initial.station.slot;
+  direct : l.study.interface.driver ≡ Direct → l.station.bench ≡ l.initial.station.bench;
+  after : g.B.Bench.after l.initial.station.bench l.station.bench;
+  later : g.B.Bench.faults l.initial.station.bench ≤ g.B.Bench.faults l.station.bench;
 }
 
 abbrev pub decreases-loop-why : goal.decreases-loop-why

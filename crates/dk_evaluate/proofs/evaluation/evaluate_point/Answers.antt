@@ -5,36 +5,53 @@ use Rattle.dk_num.specs.Decimal.{Decimal}
 use Rattle.dk_types.specs.declared.rows.Row.{Row}
 use Rattle.dk_types.specs.Best.{same_point}
 use Rattle.dk_types.specs.Answers.{Value, Dead}
-use Rattle.dk_evaluate.specs.Evaluated.{TakesNumber, ComesTo, StopsAt, Runs}
+use Rattle.dk_params.specs.declared.task.Task.{Task}
+use Rattle.dk_evaluate.specs.Evaluated.{TakesNumber, ComesTo, Settles, Runs}
+use Rattle.dk_evaluate.specs.declared.settle.Settled.TheVariants as settled
 use Rattle.dk_evaluate.proofs.Pooled.{long_set}
 use Rattle.dk_evaluate.proofs.SoFar.{IsPlaced, is_placed, index_within, taken_there, so_far_more}
-use Rattle.dk_evaluate.proofs.Running.{runs_placed, runs_row, runs_dead, runs_stop}
+use Rattle.dk_evaluate.proofs.Running.{runs_placed, runs_row, runs_dead, runs_stopped}
 use Rattle.dk_evaluate.proofs.evaluation.evaluate_point.Goals as goal
 
 pub returns-in-Dead-clause-ends : goal.returns-in-Dead-clause-ends
-returns-in-Dead-clause-ends g c = λ start before was next_is.
+returns-in-Dead-clause-ends g c = λ start bench before was next_is.
     let study = c.args.study.now in
-    let child = g.E.Evaluator.child c.args.evaluator.now in
+    let leaves = g.B.Bench.leaves in
+    let held = g.B.Bench.held in
+    let first = held c.args.station.now.bench in
+    let last = held c.settle.new.station.bench in
     let old = c.args.run.now in
     let p = old.table.point.items in
-    runs_dead study child start before c.place-card.new.self c.settle.new.ledger.book old.ledger.journal c.settle.new.ledger.journal old.table.rows.rows p (c.count-number.result + 1) c.in-Dead.attempts
-    (runs_placed study child start before old.ledger.book c.place-card.new.self old.ledger.journal old.table.rows.rows c.place-card.ensures.stands_for_entries was) next_is (ap (λ n. n + 1) c.count-number.ensures)
-    (λ entries keeps. subst (λ (q : List Decimal). ComesTo child study.interface.rule q (Dead c.in-Dead.attempts) c.settle.new.ledger.book old.ledger.journal c.settle.new.ledger.journal entries) c.deref-2.ensures.value (c.in-Dead.ensures.settles entries keeps))
+    runs_dead leaves study start bench before c.place-card.new.self c.settle.new.ledger.book old.ledger.journal c.settle.new.ledger.journal first last old.table.rows.rows p (c.count-number.result + 1) c.in-Dead.attempts
+    (runs_placed leaves study start bench before old.ledger.book c.place-card.new.self old.ledger.journal first old.table.rows.rows c.place-card.ensures.stands_for_entries was) next_is (ap (λ n. n + 1) c.count-number.ensures)
+    (λ entries keeps. subst (λ (t : Task). ComesTo leaves t study.interface.rule (length old.table.rows.rows + 1) p (Dead c.in-Dead.attempts) c.settle.new.ledger.book old.ledger.journal c.settle.new.ledger.journal first last entries) c.requires.task
+    (subst (λ (n : ℕ). ComesTo leaves c.args.station.now.task study.interface.rule (n + 1) p (Dead c.in-Dead.attempts) c.settle.new.ledger.book old.ledger.journal c.settle.new.ledger.journal first last entries) c.count-number.ensures
+    (subst (λ (q : List Decimal). ComesTo leaves c.args.station.now.task study.interface.rule (c.count-number.result + 1) q (Dead c.in-Dead.attempts) c.settle.new.ledger.book old.ledger.journal c.settle.new.ledger.journal first last entries) c.deref-2.ensures.value (c.in-Dead.ensures.settles entries keeps))))
 
 pub returns-in-Stopped-clause-ends : goal.returns-in-Stopped-clause-ends
-returns-in-Stopped-clause-ends g c = λ start before was next_is.
+returns-in-Stopped-clause-ends g c = λ start bench before was next_is.
     let study = c.args.study.now in
-    let child = g.E.Evaluator.child c.args.evaluator.now in
+    let leaves = g.B.Bench.leaves in
+    let held = g.B.Bench.held in
+    let first = held c.args.station.now.bench in
+    let last = held c.settle.new.station.bench in
     let old = c.args.run.now in
     let p = old.table.point.items in
-    runs_stop study child start before c.place-card.new.self c.settle.new.ledger.book old.ledger.journal c.settle.new.ledger.journal old.table.rows.rows p c.in-Stopped.fault
-    (runs_placed study child start before old.ledger.book c.place-card.new.self old.ledger.journal old.table.rows.rows c.place-card.ensures.stands_for_entries was) next_is c.requires.left
-    (λ entries keeps. subst (λ (q : List Decimal). StopsAt child study.interface.rule q c.in-Stopped.fault c.settle.new.ledger.book old.ledger.journal c.settle.new.ledger.journal entries) c.deref-2.ensures.value (c.in-Stopped.ensures.settles entries keeps))
+    let rows = old.table.rows.rows in
+    let v = c.settle.new.values in
+    runs_stopped leaves study start bench before c.place-card.new.self c.settle.new.ledger.book old.ledger.journal c.settle.new.ledger.journal first last rows rows p v c.in-Stopped.stop
+    (runs_placed leaves study start bench before old.ledger.book c.place-card.new.self old.ledger.journal first rows c.place-card.ensures.stands_for_entries was) next_is c.requires.left
+    (λ entries keeps. subst (λ (t : Task). Settles leaves t study.interface.rule (length rows + 1) p v c.settle.new.ledger.book old.ledger.journal c.settle.new.ledger.journal first last entries (settled.Stopped c.in-Stopped.stop)) c.requires.task
+    (subst (λ (n : ℕ). Settles leaves c.args.station.now.task study.interface.rule (n + 1) p v c.settle.new.ledger.book old.ledger.journal c.settle.new.ledger.journal first last entries (settled.Stopped c.in-Stopped.stop)) c.count-number.ensures
+    (subst (λ (q : List Decimal). Settles leaves c.args.station.now.task study.interface.rule (c.count-number.result + 1) q v c.settle.new.ledger.book old.ledger.journal c.settle.new.ledger.journal first last entries (settled.Stopped c.in-Stopped.stop)) c.deref-2.ensures.value (c.in-Stopped.ensures.settles entries keeps))))
 
 pub returns-in-Values-clause-ends : goal.returns-in-Values-clause-ends
-returns-in-Values-clause-ends g c = λ start before was next_is.
+returns-in-Values-clause-ends g c = λ start bench before was next_is.
     let study = c.args.study.now in
-    let child = g.E.Evaluator.child c.args.evaluator.now in
+    let leaves = g.B.Bench.leaves in
+    let held = g.B.Bench.held in
+    let first = held c.args.station.now.bench in
+    let last = held c.settle.new.station.bench in
     let old = c.args.run.now in
     let p = old.table.point.items in
     let v = c.settle.new.values in
@@ -43,10 +60,12 @@ returns-in-Values-clause-ends g c = λ start before was next_is.
     let row_is : c.push.new.self.rows ≡ rows ++ record { point = p; values = v } ∷ []
     = c.push.ensures.rows ∙ ap (λ (q : List Decimal). rows ++ record { point = q; values = c.deref-in-Values-2.result.now } ∷ []) c.deref-in-Values.ensures.value
     ∙ ap (λ (w : List Decimal). rows ++ record { point = p; values = w } ∷ []) (c.deref-in-Values-2.ensures.value ∙ given) in
-    subst (Runs study child start before c.settle.new.ledger.book c.settle.new.ledger.journal) (sym row_is)
-    (runs_row study child start before c.place-card.new.self c.settle.new.ledger.book old.ledger.journal c.settle.new.ledger.journal rows p v
-    (runs_placed study child start before old.ledger.book c.place-card.new.self old.ledger.journal rows c.place-card.ensures.stands_for_entries was) next_is
-    (λ entries keeps. subst (λ (q : List Decimal). ComesTo child study.interface.rule q (Value v) c.settle.new.ledger.book old.ledger.journal c.settle.new.ledger.journal entries) c.deref-2.ensures.value (c.in-Values.ensures.settles entries keeps)))
+    subst (Runs leaves study start bench before c.settle.new.ledger.book c.settle.new.ledger.journal last) (sym row_is)
+    (runs_row leaves study start bench before c.place-card.new.self c.settle.new.ledger.book old.ledger.journal c.settle.new.ledger.journal first last rows p v
+    (runs_placed leaves study start bench before old.ledger.book c.place-card.new.self old.ledger.journal first rows c.place-card.ensures.stands_for_entries was) next_is
+    (λ entries keeps. subst (λ (t : Task). ComesTo leaves t study.interface.rule (length rows + 1) p (Value v) c.settle.new.ledger.book old.ledger.journal c.settle.new.ledger.journal first last entries) c.requires.task
+    (subst (λ (n : ℕ). ComesTo leaves c.args.station.now.task study.interface.rule (n + 1) p (Value v) c.settle.new.ledger.book old.ledger.journal c.settle.new.ledger.journal first last entries) c.count-number.ensures
+    (subst (λ (q : List Decimal). ComesTo leaves c.args.station.now.task study.interface.rule (c.count-number.result + 1) q (Value v) c.settle.new.ledger.book old.ledger.journal c.settle.new.ledger.journal first last entries) c.deref-2.ensures.value (c.in-Values.ensures.settles entries keeps)))))
 
 pub push-requires-clause-first : goal.push-requires-clause-first
 push-requires-clause-first g c =

@@ -26,3 +26,6 @@ returns-in-DiskFault g c = same_bytes (ap line (sym c.in-DiskFault.is)) c.put-in
 
 pub returns-in-RestartFull : goal.returns-in-RestartFull
 returns-in-RestartFull g c = same_bytes (ap line (sym c.in-RestartFull.is)) c.put_full.ensures
+
+pub returns-in-BenchFault : goal.returns-in-BenchFault
+returns-in-BenchFault g c = same_bytes (ap line (sym c.in-BenchFault.is)) c.put_bench.ensures
