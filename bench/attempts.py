@@ -22,13 +22,13 @@ COUNT, FEW, MORE = 200, 5, 15
 CALL = re.compile(r"(\d+) +(\w+)\(")
 
 
-def lay(scratch, commands, child):
+def lay(scratch, commands, child, study):
     """Makes a folder for each command, with the study and the simulation."""
     folders = {name: os.path.join(scratch, f"of-{name}") for name in commands}
     for folder in folders.values():
         os.makedirs(folder)
         shutil.copy(child, os.path.join(folder, "child"))
-        written(folder, "study.in", study_of(SMALL))
+        written(folder, "study.in", study)
     return folders
 
 
@@ -68,10 +68,10 @@ def main():
     scratch = os.path.join(scratch, "attempts-traced" if mode == "--calls" else "attempts-timed")
     programs = {"program": [program, "attempts"], "C": [in_c]}
     if mode == "--calls":
-        compare_calls(programs, lay(scratch, programs, child))
+        compare_calls(programs, lay(scratch, programs, child, study_of(SMALL)))
         return 0
     programs["C again"] = programs["C"]
-    folders = lay(scratch, programs, child)
+    folders = lay(scratch, programs, child, study_of(SMALL))
     times, line = in_turn(int(mode), {name: command_of(it, COUNT) for name, it in programs.items()}, folders)
     print(f"attempts on {kind_of(scratch)}: {line} by all")
     tell(times, COUNT, "an attempt")

@@ -1,10 +1,17 @@
 #include "files.h"
 
+#include <errno.h>
+#include <fcntl.h>
 #include <stdint.h>
 #include <stdio.h>
 #include <stdlib.h>
 #include <string.h>
 #include <strings.h>
+#include <sys/file.h>
+#include <sys/wait.h>
+#include <unistd.h>
+
+extern char **environ;
 
 enum { MOST_DIGITS = 34, MOST_EXPONENT = 9999, LEAST_PLACES = 22, LEAST_DIGITS = 15, MOST_PIECES = 1024, LONG = 100000000 };
 
@@ -124,6 +131,25 @@ decimal *point_of(const task *study, char **words, int count)
     return point;
 }
 
+/* A decimal in units of 10^unit. */
+static __int128 in_units(const decimal *number, int unit)
+{
+    __int128 units = (__int128)(number->mantissa * power(number->exponent - unit));
+    return number->negative ? -units : units;
+}
+
+decimal stepped(const decimal *first, const decimal *step, unsigned count)
+{
+    int unit = first->exponent < step->exponent ? first->exponent : step->exponent;
+    __int128 units = in_units(first, unit) + count * in_units(step, unit);
+    if (units == 0)
+        return (decimal){0, 0, false};
+    decimal number = {(u128)(units < 0 ? -units : units), unit, units < 0};
+    for (; number.mantissa % 10 == 0; number.exponent++)
+        number.mantissa /= 10;
+    return number;
+}
+
 /* Texts. */
 
 static char *put(piece text, char *to)
@@ -190,6 +216,29 @@ static char *put_scientific(const decimal *number, char *to)
     if (abs(exponent) < 10)
         *to++ = '0';
     return put_whole((unsigned)abs(exponent), to);
+}
+
+static char *put_zeros(int count, char *to)
+{
+    memset(to, '0', (size_t)count);
+    return to + count;
+}
+
+char *put_plain(const decimal *number, char *to)
+{
+    char room[40], *end = room + sizeof room, *first = digits_before(number->mantissa, end);
+    int count = (int)(end - first), whole = count + number->exponent;
+    if (number->negative)
+        *to++ = '-';
+    if (number->exponent >= 0)
+        return put_zeros(number->exponent, put((piece){first, (size_t)count}, to));
+    if (whole <= 0) {
+        to = put_zeros(-whole, put(PIECE("0."), to));
+        whole = 0;
+    } else {
+        to = put_byte('.', put((piece){first, (size_t)whole}, to));
+    }
+    return put((piece){first + whole, (size_t)(count - whole)}, to);
 }
 
 /* Writes a line of a value and its tag. */
@@ -337,13 +386,21 @@ static int take_labels(const char *keyword, const char *labels, char **pieces, i
     return found;
 }
 
-void read_task(const char *path, task *to)
+/* Cuts a study into its pieces, and answers how many there are. */
+static int pieces_of(const char *path, char **pieces)
 {
     size_t length;
-    char *text = bytes_of(path, &length), *pieces[MOST_PIECES], *it;
+    char *text = bytes_of(path, &length), *it;
     int count = 0;
     while (count < MOST_PIECES && (it = next_piece(&text)))
         pieces[count++] = it;
+    return count;
+}
+
+void read_task(const char *path, task *to)
+{
+    char *pieces[MOST_PIECES], *it;
+    int count = pieces_of(path, pieces);
     to->variable_count = take_labels("continuous_design", "descriptors", pieces, count, to->variables);
     to->response_count = take_labels("response_functions", "response_descriptors", pieces, count, to->responses);
     char **driver = behind("analysis_drivers", pieces, count);
@@ -357,4 +414,166 @@ void read_task(const char *path, task *to)
     to->aprepro = behind("aprepro", pieces, count);
     to->tag = behind("file_tag", pieces, count);
     to->save = behind("file_save", pieces, count);
+}
+
+/* Takes the numbers of a keyword. */
+static void take_numbers(const char *keyword, char **pieces, int count, int numbers, decimal *to)
+{
+    char **first = behind(keyword, pieces, count);
+    insist(first, keyword);
+    for (int i = 0; i < numbers; i++)
+        insist(read_decimal(first[i], first[i] + strlen(first[i]), &to[i]), first[i]);
+}
+
+void read_vector(const char *path, const task *study, vector *to)
+{
+    char *pieces[MOST_PIECES];
+    int count = pieces_of(path, pieces);
+    char **steps = behind("num_steps", pieces, count);
+    insist(steps, "num_steps");
+    to->step_count = (unsigned)atoi(*steps);
+    take_numbers("initial_point", pieces, count, study->variable_count, to->first);
+    take_numbers("step_vector", pieces, count, study->variable_count, to->step);
+}
+
+/* Attempts. */
+
+/* The names of an evaluation's files, the first arguments behind the driver's words. */
+typedef struct {
+    char parameters[512], results[512];
+} names;
+
+static void name(const task *study, unsigned evaluation, names *to)
+{
+    if (study->tag) {
+        snprintf(to->parameters, sizeof to->parameters, "%s.%u", study->parameters, evaluation);
+        snprintf(to->results, sizeof to->results, "%s.%u", study->results, evaluation);
+    } else {
+        snprintf(to->parameters, sizeof to->parameters, "%s", study->parameters);
+        snprintf(to->results, sizeof to->results, "%s", study->results);
+    }
+}
+
+/* Removes a file, where it is there. */
+static void clear(const char *path)
+{
+    insist(unlink(path) == 0 || errno == ENOENT, path);
+}
+
+/* Makes a file anew. */
+static void lay(const char *path, const char *bytes, size_t length)
+{
+    clear(path);
+    int file = open(path, O_WRONLY | O_CREAT | O_EXCL | O_CLOEXEC, 0666);
+    insist(file >= 0, path);
+    for (size_t at = 0; at < length;) {
+        ssize_t count = write(file, bytes + at, length - at);
+        insist(count > 0, path);
+        at += (size_t)count;
+    }
+    close(file);
+}
+
+/* Starts the child, whose standard input is empty and whose standard output is this program's error, and waits for it. */
+static void run(char **words, const posix_spawn_file_actions_t *opened)
+{
+    pid_t child;
+    int status;
+    errno = posix_spawnp(&child, words[0], opened, NULL, words, environ);
+    insist(errno == 0, words[0]);
+    insist(waitpid(child, &status, 0) == child, "waitpid");
+}
+
+/* How many bytes a file has, which are read; less than none where it isn't there or has too many. */
+static ssize_t fetch(const char *path, char *left)
+{
+    int file = open(path, O_RDONLY | O_CLOEXEC);
+    insist(file >= 0 || errno == ENOENT, path);
+    if (file < 0)
+        return -1;
+    ssize_t length = 0, count;
+    while ((count = read(file, left + length, (size_t)(MOST_LEFT + 1 - length))) > 0)
+        length += count;
+    insist(count == 0, path);
+    close(file);
+    return length > MOST_LEFT ? -1 : length;
+}
+
+void make_station(task *study, station *to)
+{
+    to->study = study;
+    to->text = malloc(most_bytes(study));
+    to->left = malloc(MOST_LEFT + 1);
+    insist(to->text && to->left && posix_spawn_file_actions_init(&to->opened) == 0 &&
+               posix_spawn_file_actions_addopen(&to->opened, STDIN_FILENO, "/dev/null", O_RDONLY, 0) == 0 &&
+               posix_spawn_file_actions_adddup2(&to->opened, STDERR_FILENO, STDOUT_FILENO) == 0,
+           "malloc");
+}
+
+bool attempt(station *by, unsigned evaluation, const decimal *point, decimal *values)
+{
+    task *study = by->study;
+    names files;
+    name(study, evaluation, &files);
+    study->words[study->word_count] = files.parameters;
+    study->words[study->word_count + 1] = files.results;
+    study->words[study->word_count + 2] = NULL;
+    size_t text_length = parameters_text(study, evaluation, point, by->text);
+    clear(files.results);
+    lay(files.parameters, by->text, text_length);
+    run(study->words, &by->opened);
+    ssize_t length = fetch(files.results, by->left);
+    if (!study->save) {
+        clear(files.results);
+        clear(files.parameters);
+    }
+    return length >= 0 && read_results(by->left, by->left + length, values, study->response_count);
+}
+
+/* Restart files. */
+
+/* Has the system write down the folder of a path. */
+static void sync_folder(const char *path)
+{
+    char folder[4096] = ".";
+    const char *last = strrchr(path, '/');
+    if (last) {
+        size_t length = last == path ? 1 : (size_t)(last - path);
+        insist(length < sizeof folder, path);
+        memcpy(folder, path, length);
+        folder[length] = 0;
+    }
+    int file = open(folder, O_RDONLY | O_CLOEXEC);
+    insist(file >= 0 && fsync(file) == 0, folder);
+    close(file);
+}
+
+/* Writes a piece at a place, and syncs. */
+static void rewrite(int file, off_t at, const void *piece, size_t length)
+{
+    insist(pwrite(file, piece, length, at) == (ssize_t)length, "pwrite");
+    insist(fdatasync(file) == 0, "fdatasync");
+}
+
+void append(int file, off_t gate, const void *payload, size_t length)
+{
+    static const char open_gate = 1;
+    static char piece[MOST_PAYLOAD];
+    insist(length < sizeof piece, "payload");
+    memcpy(piece, payload, length);
+    piece[length] = 0;
+    rewrite(file, gate + GATE, piece, length + GATE);
+    rewrite(file, gate, &open_gate, GATE);
+}
+
+int begin_restart(const char *path, const void *header, size_t length)
+{
+    static const char closed_gate = 0;
+    int file = open(path, O_RDWR | O_CREAT | O_EXCL | O_CLOEXEC, 0666);
+    insist(file >= 0 && flock(file, LOCK_EX | LOCK_NB) == 0, path);
+    sync_folder(path);
+    insist(fdatasync(file) == 0, "fdatasync");
+    rewrite(file, 0, &closed_gate, GATE);
+    append(file, 0, header, length);
+    return file;
 }

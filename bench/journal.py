@@ -50,23 +50,43 @@ def compare_calls(commands, folders):
     return 0
 
 
-def compare_times(most, commands, folders, kept):
-    """Times the commands in turn, five times and then up to so many times within two minutes. Each turn begins with the
-    command with which the one before ended."""
+def times_of(commands, folders, fault_of, least, most, seconds):
+    """The times of the commands, which take turns: so many at least, and then up to so many within these seconds. Each turn
+    begins with the command with which the one before ended. A run that left something wrong ends the program."""
     times, begun, names = {name: [] for name in commands}, time.monotonic(), list(commands)
-    while len(times[names[0]]) < 5 or len(times[names[0]]) < most and time.monotonic() - begun < SECONDS:
+    while len(times[names[0]]) < least or len(times[names[0]]) < most and time.monotonic() - begun < seconds:
         for name in names:
-            times[name].append(ran(commands[name], folders[name])[0])
-            if left(folders[name], RESTART) != kept:
-                print(f"bench: another restart file by {name}")
-                return 1
+            taken, wrote = ran(commands[name], folders[name])
+            times[name].append(taken)
+            if fault := fault_of(folders[name], wrote):
+                sys.exit(f"bench: {fault} by {name}")
         names.reverse()
+    return times
+
+
+def tell_times(times):
+    """Prints the median and the spread of each command's times, and answers the medians."""
     medians = {name: statistics.median(it) for name, it in times.items()}
     for name, it in times.items():
         spread = f"least {min(it) * 1000:.0f} ms, most {max(it) * 1000:.0f} ms"
         print(f"{name}: median of {len(it)} runs {medians[name] * 1000:.0f} ms, {spread}")
+    return medians
+
+
+def tell_ratios(times, medians):
+    """Prints the ratios of times to those of C, of the program and of C itself."""
     for one in ("program", "C again"):
         print(f"{one} / C: {medians[one] / medians['C']:.2f}, of the least times {min(times[one]) / min(times['C']):.2f}")
+
+
+def compare_times(most, commands, folders, kept):
+    """Times the commands in turn, five times and then up to so many times within two minutes."""
+
+    def fault_of(folder, _):
+        return None if left(folder, RESTART) == kept else "another restart file"
+
+    times = times_of(commands, folders, fault_of, 5, most, SECONDS)
+    tell_ratios(times, tell_times(times))
     return 0
 
 

@@ -51,15 +51,15 @@ def value_at(x1, x2):
         return None
 
 
-def file_of(path):
-    """The restart file that a run of the study at a path leaves."""
+def file_of(path, value_of=value_at):
+    """The restart file that a run of the study at a path leaves, whose points have these values or none."""
     study = Study(path)
     parts, made = [header_of([b"x1", b"x2"], [b"obj_fn"])], set()
     for point in grid_points(study) if study.has("partitions") else points_by_step(study):
         if point in made:
             continue
         made.add(point)
-        value = value_at(*point)
+        value = value_of(*point)
         parts.append(record_of(point, value))
         if value is None and not study.has("recover"):
             break

@@ -1,7 +1,8 @@
 #!/bin/sh
 # Compares the proved program with Python and C on four studies that it runs, with C on the restart file that it keeps, with
-# Python on one that it goes on with and on a study that it reads, and with C on the files of attempts and on attempts with
-# children: run.sh [RUNS]. README.md beside it says more.
+# Python on one that it goes on with and on a study that it reads, with C on the files of attempts, on attempts with children
+# and on a study over children, and on this one with xargs, parallel and a loop in Python: run.sh [RUNS]. With --most in the
+# place of RUNS it runs a study of 100,000 evaluations over children, once, and nothing else. README.md beside it says more.
 here=$(CDPATH='' cd -P -- "$(dirname -- "$0")" && pwd) || exit 1
 runs=${1:-11}
 program=$here/../crates/dakota/out/dakota
@@ -28,13 +29,21 @@ else
 fi
 compiled=
 if command -v gcc >/dev/null 2>&1; then
-    gcc -O2 -o "$scratch/study" "$here/study.c" && gcc -O2 -o "$scratch/journal" "$here/journal.c" &&
-        gcc -O2 -o "$scratch/texts" "$here/texts.c" "$here/files.c" &&
-        gcc -O2 -o "$scratch/attempts" "$here/attempts.c" "$here/files.c" &&
-        { gcc -O2 -static -o "$scratch/child" "$here/child.c" 2>/dev/null || gcc -O2 -o "$scratch/child" "$here/child.c"; } &&
-        compiled=$scratch
+    gcc -O2 -o "$scratch/study" "$here/study.c" && compiled=$scratch
+    for name in journal texts attempts children; do
+        gcc -O2 -o "$scratch/$name" "$here/$name.c" "$here/files.c" || compiled=
+    done
+    for name in child failing; do
+        gcc -O2 -static -o "$scratch/$name" "$here/$name.c" 2>/dev/null ||
+            gcc -O2 -o "$scratch/$name" "$here/$name.c" || compiled=
+    done
 else
-    echo "bench: gcc isn't on this machine, so the studies, the restart file and attempts in C are left out" >&2
+    echo "bench: gcc isn't on this machine, so what is in C and all with children is left out" >&2
+fi
+if [ "$runs" = --most ]; then
+    [ -n "$memory" ] && [ -n "$compiled" ] || exit 1
+    python3 "$here/most.py" "$memory" "$here/most.in" "$program" "$compiled/failing"
+    exit
 fi
 if [ -n "$compiled" ]; then
     "$here/build.sh" || exit 1
@@ -67,3 +76,11 @@ fi
 for folder in ${memory:+"$memory"} "$scratch"; do
     python3 "$here/attempts.py" 101 "$folder" "$@" || exit 1
 done
+set -- "$here/children.in" "$program" "$compiled/children" "$compiled/child"
+if command -v strace >/dev/null 2>&1; then
+    python3 "$here/children.py" --calls "${memory:-$scratch}" "$@" || exit 1
+else
+    echo "bench: strace isn't on this machine, so the calls of studies over children aren't compared" >&2
+fi
+python3 "$here/children.py" 31 "$scratch" "$@" || exit 1
+python3 "$here/tools.py" 5 "$scratch" "$1" "$2" "$4" "$here/tool.sh" "$here/loop.py"
