@@ -6,16 +6,18 @@
 
 Each study is checked, and run where it is accepted; some of the others are run too. Many runs name their restart file, by
 -w or -r, and many begin with a file there: one that holds some or all of the study's attempts, or others, whole, cut or
-spoiled, one of another study, an empty one, or one that is no restart file. Each command runs in two scratch folders that
-begin alike. Compared are standard output, the exit status, and the files that are in the folder then, restart files
-and older ones among them, byte for byte. Nothing may come on standard error, and no file may be made or changed by a check,
-or where the status is 2 to 6. With --keep, the folders of a case that differs are kept there, with a file `words`. With
+spoiled, one of another study, an empty one, or one that is no restart file. Most studies with children (`fork`) have a driver
+that stands in the folder, and others one that can't be started or leaves nothing; those that may start more than some
+hundred children that run are left out. Each command runs in two scratch folders that begin alike. Compared are standard
+output, the exit status, and the files that are in the folder then, restart files and older ones among them, byte for byte.
+Nothing may come on standard error but what children print, and no file may be made or changed by a check, or where the
+status is 2 to 6. With --keep, the folders of a case that differs are kept there, with a file `words`. With
 --alone, only the reference runs. Scratch folders are made under TMPDIR; in a folder in memory a run takes less time.
 
-At the end it is told how many cases had each status and each kind of refusal, and how often each method ended how under
-which rule for failures; under `recover` also whether none, some or all of the points failed; and how runs over a restart
-file that was there ended. A study that is accepted and doesn't run so far counts as `not run`. The exit status is 1 where a
-case differs.
+At the end it is told how many cases had each status and each kind of refusal, at which steps benches failed, and how often
+each method ended how under which rule for failures, with children (`forked`) or without; under `recover` without children also
+whether none, some or all of the points failed; and how runs over a restart file that was there ended. A study that is
+accepted and doesn't run so far counts as `not run`. The exit status is 1 where a case differs.
 """
 import argparse
 import collections
@@ -28,8 +30,9 @@ import subprocess
 import sys
 import tempfile
 
+import plain_driver
 from contents import content_of
-from dakota import evaluate, is_evaluated, points_of
+from dakota import attempt_of, evaluate, is_evaluated, points_of
 from decimals import decimal_of, rosenbrock
 from form_texts import form_text
 from restart import Shape, file_bytes, shape_of
@@ -45,27 +48,49 @@ RESTART_NAMES = [b"dakota.rst"] * 4 + [b"x.rst"] * 4 + [b"sub/x.rst", "größe.r
 NO_RESTARTS = [b"sub", b"none/x.rst", b"sub/", b".", b"s.in", b"./s.in", b"n" * 300, b"n" * 253, b"t.dat/x"]
 READ_OPTIONS = (b"-r", b"-read_restart")
 MOST_EVALUATIONS = 3000
+MOST_CHILDREN = 300
 LONELY_WORDS = ([b"--help"], [b"--version"])
 
 
 # Cases
 
 
-def shape_and_entries(text):
-    """The labels of a study, and the attempts that it makes; those of another one where it isn't evaluated."""
-    journal = Journal()
+def study_of(text):
+    """The study of a text, or none where it is refused."""
     try:
-        study = read_study(text)
+        return read_study(text)
     except Refused:
+        return None
+
+
+def is_forked(study):
+    return study is not None and not study.interface.is_direct
+
+
+def starts_many(study):
+    """Whether a run may start too many children."""
+    rule, given = study.interface.rule
+    return study.limit + (given if rule == "retry" else 0) > MOST_CHILDREN
+
+
+def is_left_out(study):
+    return is_forked(study) and study.interface.driver.split()[0] == b"sh" and is_evaluated(study) and starts_many(study)
+
+
+def shape_and_entries(study):
+    """The labels of a study, and the attempts that it makes, with the driver of generated studies where it has children;
+    those of another study where it isn't evaluated."""
+    journal = Journal()
+    if study is None:
         return Shape(["x1", "x2"], ["obj_fn"]), []
-    if is_evaluated(study) and study.limit <= MOST_EVALUATIONS:
-        evaluate(study, journal)
+    if is_evaluated(study) and study.limit <= (MOST_CHILDREN if is_forked(study) else MOST_EVALUATIONS):
+        evaluate(study, journal, plain_driver.said if is_forked(study) else attempt_of)
     return shape_of(study), journal.book.entries
 
 
-def restart_content(random, text):
+def restart_content(random, study):
     """The bytes of a restart file for a study."""
-    shape, entries = shape_and_entries(text)
+    shape, entries = shape_and_entries(study)
     if len(shape.variables) > 10:
         return file_bytes(shape, [])
     if random.random() < 0.05:
@@ -80,8 +105,9 @@ class Case:
     def __init__(self, random):
         name = random.choice(STUDY_NAMES)
         (study_text,) = random.choices([form_text, run_text, whole_study_text], [20, 35, 45])
-        self.text = study_text(random)
-        self.files, self.folders = {name: self.text}, [b"sub"]
+        text = study_text(random)
+        self.study = study_of(text)
+        self.files, self.folders = {name: text, plain_driver.NAME.encode(): plain_driver.SCRIPT}, [b"sub"]
         self.check, self.run = self.right_words(random, name)
         self.is_run_anyhow = random.random() < 0.2
         chance = random.random()
@@ -108,7 +134,7 @@ class Case:
             restart = [random.choice(options), name]
             self.run = random.choice([self.run + restart, restart + self.run])
         if name not in NO_RESTARTS and os.path.normpath(name) not in self.folders and random.random() < (0.9 if is_read else 0.5):
-            self.files.setdefault(name, restart_content(random, self.text))
+            self.files.setdefault(name, restart_content(random, self.study))
             self.is_resumed = is_read
         for end in (b".old", b".old2", b".old3"):
             if random.random() < 0.15 and name not in NO_RESTARTS:
@@ -238,13 +264,13 @@ def faults(words, ours, theirs):
             wrong.append(f"file {name}: from byte {at} {shown(one[at:at + 80])}, and {shown(other[at:at + 80])} by the reference")
     if (status in range(2, 7) or b"-check" in words) and after != before:
         wrong.append(f"files changed under status {status}")
-    if errors or their_errors:
+    if errors != their_errors:
         wrong.append(f"standard error {shown(errors)}, and {shown(their_errors)} by the reference")
     return wrong
 
 
 def failures(study):
-    """How many points of a study that runs fail: none, some or all."""
+    """How many points of a study without children fail: none, some or all."""
     values = [rosenbrock(*(decimal_of(it, study.unit) for it in point)) for point in points_of(study)]
     return "none" if None not in values else "some" if any(values) else "all"
 
@@ -259,12 +285,17 @@ def kinds_of(said, case):
     restart = re.match(rb"dakota: restart refused: (\w+)", said)
     if restart:
         yield f"restart {restart[1].decode()}"
+    bench = re.match(rb"dakota: bench 0 failed at (.*)", said)
+    if bench:
+        yield f"bench failed at {bench[1].decode()}"
     ended = re.match(rb"<<<<< Study (finished|aborted).*\n.*, (\d+) duplicate", said)
     if ended:
-        study = read_study(case.text)
+        study, is_direct = case.study, not is_forked(case.study)
         name = study.method.name.split("_")[0] + (" to a final point" if "final_point" in study.method.values else "")
+        name = name if is_direct else f"forked {name}"
         rule, _ = study.interface.rule
-        yield f"{name} {ended[1].decode()} under {rule}" + (f", {failures(study)} failed" if rule == "recover" else "")
+        told = f", {failures(study)} failed" if rule == "recover" and is_direct else ""
+        yield f"{name} {ended[1].decode()} under {rule}{told}"
         if ended[2] != b"0":
             yield f"{name} with duplicates"
         if case.is_resumed and any(it in case.run for it in READ_OPTIONS):
@@ -274,7 +305,7 @@ def kinds_of(said, case):
 def compared(case, words, folders, arguments):
     """Runs a command with both programs, and returns what the reference did, and what is wrong."""
     theirs = ran(arguments.reference, case, words, folders[1])
-    wrong = ["standard error by the reference"] if theirs[4] else []
+    wrong = ["standard error by the reference"] if theirs[4] and not is_forked(case.study) else []
     if arguments.program:
         wrong = faults(words, ran(arguments.program, case, words, folders[0]), theirs)
     return theirs, wrong
@@ -297,6 +328,9 @@ def tried(number, arguments, scratch):
     statuses, kinds, all_wrong = set(), set(), []
     for words in (case.check, case.run):
         if words is None or (words is case.run and statuses != {0} and not case.is_run_anyhow):
+            continue
+        if words is case.run and is_left_out(case.study):
+            kinds.add("left out")
             continue
         folders = [os.fsencode(tempfile.mkdtemp(prefix=f"{number}-{it}-", dir=scratch)) for it in ("program", "reference")]
         try:

@@ -1,13 +1,18 @@
 #!/usr/bin/env python3
 """Kills and resumes the program, opens spoiled restart files with it, and runs it where the outside refuses.
 
-    crash.py PROGRAM [--rounds N] [--contents N] [--seed S] [--jobs J] [--keep FOLDER]
+    crash.py PROGRAM [--rounds N] [--child-rounds N] [--contents N] [--seed S] [--jobs J] [--keep FOLDER]
 
 In each round a run of one of several studies is killed up to five times, before or behind a system call where commands can
 be traced here, or else after some microseconds. After each kill the restart file has to be one that can be opened, with
 a front of the attempts of a run that wasn't interrupted, and behind them nothing but a front of the next record. The
 last run isn't killed: what it prints, its status, its table and its restart file have to be those of the run that wasn't
 interrupted, so that no attempt was made twice. Some rounds begin with an older file, which has to be kept.
+
+So it is done with studies whose attempts are made by children (`fork`), which tell of each start. A killed run's child isn't
+killed, and has ended before the run is resumed. In each session just those attempts are started that the restart file
+has more at its end, one after another, and where it was killed at most the one for which the study waits then: so none that
+the file has is started again. The files of an attempt may be there, stale, before it is made.
 
 Then contents of restart files, whole, cut and spoiled, are opened by the program and by the second reading: what is
 printed, the status and all files have to be alike. Then the order is looked at in which the restart file is written and
@@ -27,6 +32,8 @@ import os
 import sys
 import tempfile
 
+from child_rounds import ChildRounds
+from child_studies import child_studies
 from content_rounds import ContentRounds
 from crash_studies import all_studies
 from kill import can_trace
@@ -78,11 +85,20 @@ def read_arguments():
     parser = argparse.ArgumentParser(description=__doc__.split("\n")[0])
     parser.add_argument("program", type=os.path.abspath)
     parser.add_argument("--rounds", type=int, default=2000)
+    parser.add_argument("--child-rounds", type=int, default=500)
     parser.add_argument("--contents", type=int, default=20000)
     parser.add_argument("--seed", type=int, default=1)
     parser.add_argument("--jobs", type=int, default=os.cpu_count())
     parser.add_argument("--keep", type=os.path.abspath)
     return parser.parse_args()
+
+
+def child_part(report, arguments, traces, scratch):
+    studies = child_studies()
+    rounds = ChildRounds(arguments.program, studies, arguments.seed, traces, scratch, arguments.keep)
+    report.end(f"whole with children: {len(studies)} studies", rounds.wrong)
+    counts, wrong = all_rounds(rounds, arguments.child_rounds, arguments.jobs)
+    report.end(f"kills with children: {arguments.child_rounds} rounds, {counted(counts)}", wrong)
 
 
 def all_parts(arguments, scratch):
@@ -96,6 +112,7 @@ def all_parts(arguments, scratch):
     report.end(f"worked: {len(FILES)} files", [*faults_of_worked(program, studies[0], scratch)])
     counts, wrong = all_rounds(kills, arguments.rounds, arguments.jobs)
     report.end(f"kills: {arguments.rounds} rounds, {counted(counts)}", wrong)
+    child_part(report, arguments, traces, scratch)
     contents = ContentRounds(program, studies, seed, scratch, keep)
     counts, wrong = all_rounds(contents, arguments.contents, arguments.jobs)
     report.end(f"contents: {arguments.contents} files, {counted(counts)}", wrong)

@@ -2,7 +2,7 @@
 import random
 import re
 
-from dakota import evaluate, is_evaluated
+from dakota import attempt_of, evaluate, is_evaluated
 from restart_file import Journal
 from run_texts import run_text
 from study import Refused, read_study
@@ -39,17 +39,18 @@ MOST_ATTEMPTS = 1200
 
 
 class Study:
-    """A study's text, its parts, and the attempts that it makes."""
+    """A study's text, its parts, the files that stand beside it, and the attempts that it makes and what comes of them."""
 
-    def __init__(self, text):
-        self.text, self.parts = text, read_study(text)
+    def __init__(self, text, beside=(), make=attempt_of):
+        self.text, self.parts, self.beside = text, read_study(text), dict(beside)
         journal = Journal()
-        _, self.failed = evaluate(self.parts, journal)
+        self.rows, self.failed = evaluate(self.parts, journal, make)
         self.entries = journal.book.entries
 
 
 def text_by_chance(number, seed):
-    """The text of a study that is evaluated, whose table is the file `t.dat`, and which makes not too many attempts."""
+    """The text of a study with `direct` that is evaluated, whose table is the file `t.dat`, and which makes not too many
+    attempts."""
     source = random.Random(f"{seed} study {number}")
     while True:
         text = run_text(source)
@@ -57,7 +58,8 @@ def text_by_chance(number, seed):
             study = read_study(text)
         except Refused:
             continue
-        if is_evaluated(study) and study.table == b"t.dat" and study.limit <= MOST_ATTEMPTS:
+        is_direct = study.interface.is_direct and is_evaluated(study)
+        if is_direct and study.table == b"t.dat" and study.limit <= MOST_ATTEMPTS:
             return text
 
 

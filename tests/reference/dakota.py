@@ -1,10 +1,12 @@
 #!/usr/bin/env python3
-"""A second reading of the rules, for comparison with the proved program: the same command line, restart file, table and
-summary."""
+"""A second reading of the rules, for comparison with the proved program: the same command line, restart file, children, table
+and summary."""
+import functools
 import itertools
 import os
 import sys
 
+from children import BenchFailed, attempt_by_child
 from decimals import decimal_of, is_less, rosenbrock, text_of
 from restart import Entry, Full, RestartRefused, shape_of
 from restart_file import FileJournal, is_same_file, older_files, opened
@@ -74,34 +76,42 @@ def points_of(study):
 
 def is_evaluated(study):
     """Whether a run of this study is there so far."""
-    return study.method.name != "compass_search" and study.interface.is_direct
+    return study.method.name != "compass_search"
 
 
-def said_of(point, attempt, journal):
-    """What an attempt said of a point. It is made, and appended to the journal, where that doesn't have it."""
-    said = journal.book.said.get(point, [])
-    if attempt > len(said):
-        value = rosenbrock(*point)
-        journal.append(Entry(point, attempt, None if value is None else (value,)))
-    return journal.book.said[point][attempt - 1]
+def attempt_of(study, row, point, attempt, kept=()):
+    """What an attempt says of a row's point: its values, or none where it failed. Nobody is told its number. No child's file
+    takes the place of one that is kept."""
+    if not study.interface.is_direct:
+        return attempt_by_child(study, row, point, kept)
+    value = rosenbrock(*point)
+    return None if value is None else (value,)
 
 
-def under_rule(point, rule, given, journal):
-    """The values of a point under a rule for failures, or none; and how many attempts were looked at."""
+def under_rule(rule, given, say):
+    """The values of a point under a rule for failures, or none; and how many attempts were looked at, each of which says
+    its values or none."""
     most = 1 + given if rule == "retry" else 1
     for attempt in range(1, most + 1):
-        said = said_of(point, attempt, journal)
+        said = say(attempt)
         if said is not None:
             return said, attempt
     return tuple(given) if rule == "recover" else None, most
 
 
-def evaluate(study, journal):
-    """The rows (x1, x2, value) up to the first point without values, and how many attempts it had; none where each has some."""
+def evaluate(study, journal, make=attempt_of):
+    """The rows, each a point and its values, up to the first point without values, and how many attempts it had; none where
+    each has some. An attempt is made, and appended to the journal, where that doesn't have it."""
     rows = []
-    for units in points_of(study):
+    for row, units in enumerate(points_of(study), 1):
         point = tuple(decimal_of(it, study.unit) for it in units)
-        values, attempts = under_rule(point, *study.interface.rule, journal)
+
+        def say(attempt):
+            if attempt > len(journal.book.said.get(point, [])):
+                journal.append(Entry(point, attempt, make(study, row, point, attempt)))
+            return journal.book.said[point][attempt - 1]
+
+        values, attempts = under_rule(*study.interface.rule, say)
         if values is None:
             return rows, attempts
         rows.append((*point, *values))
@@ -133,7 +143,7 @@ def best_lines(study, rows):
 
 def summary(study, rows, attempts):
     ending = "finished: complete" if attempts is None else f"aborted: evaluation {len(rows) + 1} failed, attempts {attempts}"
-    fresh = len({row[:2] for row in rows})
+    fresh = len({row[: len(study.variables.labels)] for row in rows})
     lines = [
         f"Study {ending}",
         f"Function evaluation summary: {len(rows)} total ({fresh} new, {len(rows) - fresh} duplicate)",
@@ -219,13 +229,16 @@ def run_study(study, name, restart, is_fresh):
     """Evaluates a study over its restart file, and writes its table."""
     try:
         with opened(restart, is_fresh, name) as file:
-            rows, attempts = evaluate(study, FileJournal(file, shape_of(study), is_fresh))
+            make = functools.partial(attempt_of, kept=(name, restart, *older_files(restart)))
+            rows, attempts = evaluate(study, FileJournal(file, shape_of(study), is_fresh), make)
     except RestartRefused as refused:
         return f"dakota: restart refused: {refused}\n", 5
     except OSError:
         return "dakota: restart file failed\n", 6
     except Full as full:
         return f"dakota: restart file full (length {full})\n", 7
+    except BenchFailed as step:
+        return f"dakota: bench 0 failed at {step}\n", 8
     try:
         if study.table is not None:
             write_table(study.table.decode(), (name, restart, *older_files(restart)), table(study, rows))

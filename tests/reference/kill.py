@@ -47,6 +47,7 @@ def begun(program, words, folder, prepare=None):
 
 
 def ended(process):
+    """What a command did, once it and all of its children that print to the same pipe have ended."""
     try:
         said, _ = process.communicate(timeout=SECONDS)
     except subprocess.TimeoutExpired:

@@ -9,6 +9,11 @@ that is aborted; each other one is refused. longer.in is run by resume.sh, which
 The program leaves a restart file of the size that stands here, and a run that goes on with it ends alike, leaves it as it
 is, and takes its values from it. What the manual says of copies, of a file that is cut and of its refusals is checked too.
 
+Studies over a simulation are run by the program in a copy of their folder, and so are the commands over the examples that
+README.md and the manual show, with what they print. Files that these show are those of examples/. How a simulation is started
+and its two files are named, what results files come to, and how a run ends where an evaluation can't be made, is checked in
+runs. examples/recipes/ is run by recipes.py.
+
 PROGRAM is `dakota` of this project if left out, where that was built; else the second reading alone is checked. It is no
 part of the gate.
 """
@@ -18,8 +23,11 @@ import subprocess
 import sys
 import tempfile
 
-ROOT = os.path.dirname(os.path.dirname(os.path.dirname(os.path.abspath(__file__))))
-EXAMPLES = os.path.join(ROOT, "examples")
+import child_calls
+import child_files
+import forked
+import shown
+from copies import EXAMPLES, ROOT, names_under, read, write
 
 ACCEPTED = {
     "vector.in": (2, 1, 3),
@@ -87,16 +95,6 @@ def ran(program, *words, files=()):
         return done.returncode, done.stdout, {it: read(os.path.join(folder, it)) for it in os.listdir(folder)}
 
 
-def read(path):
-    with open(path, "rb") as it:
-        return it.read()
-
-
-def write(path, content):
-    with open(path, "wb") as it:
-        it.write(content)
-
-
 def wanted_of(name):
     """What a run of an example is to do."""
     if name not in RUN:
@@ -106,9 +104,16 @@ def wanted_of(name):
     return int(name in ABORTED), read(f"{front}.summary"), {table: read(f"{front}.table")}
 
 
+def names_of_examples():
+    """The files of examples/ and its folders that have a line here or in forked.py."""
+    fronts = {it.removesuffix(".in") for it in RUN} | {*forked.RUN.values()}
+    results = {it + end for it in fronts for end in (".table", ".summary")}
+    return {"resume.sh", *ACCEPTED, *forked.ACCEPTED, *forked.OTHERS, *results}
+
+
 def faults_of_files():
-    wanted = {"resume.sh", "drivers", *ACCEPTED, *(it.replace(".in", end) for it in RUN for end in (".table", ".summary"))}
-    for name in sorted(wanted ^ {*os.listdir(EXAMPLES)}):
+    wanted = names_of_examples()
+    for name in sorted(wanted ^ {*names_under(EXAMPLES)}):
         yield f"examples/{name} isn't there" if name in wanted else f"examples/{name} has no line here"
 
 
@@ -121,11 +126,11 @@ def told_apart(command, told, wanted):
 
 def faults_of_examples(program):
     """Of examples that are checked and run, by the second reading or by the program. Their restart files are left out."""
-    for name, counts in ACCEPTED.items():
+    for name, counts in {**ACCEPTED, **forked.ACCEPTED}.items():
         study = os.path.join(EXAMPLES, name)
         line = "study accepted: variables {}, responses {}, evaluations at most {}\n".format(*counts)
         yield from told_apart(f"{program} -check {name}", ran(program, "-check", "-i", study), (0, line.encode(), {}))
-        if name != "longer.in":
+        if name in ACCEPTED and name != "longer.in":
             status, printed, files = ran(program, "-i", study)
             files.pop(RESTART, None)
             yield from told_apart(f"{program} {name}", (status, printed, files), wanted_of(name))
@@ -192,17 +197,34 @@ def programs():
         yield [os.path.join(ROOT, "dakota")]
 
 
+# What is checked of the program alone.
+OF_PROGRAM = (
+    faults_of_restarts,
+    faults_of_changed_files,
+    faults_of_script,
+    forked.faults_of_runs,
+    child_calls.faults_of_start,
+    child_calls.faults_of_steps,
+    child_calls.faults_of_way_on,
+    child_files.faults_of_names,
+    child_files.faults_of_results,
+    shown.faults_of_sessions,
+)
+
+
 def main():
     commands = [*programs()]
-    faults = [*faults_of_manual(), *faults_of_files()]
+    faults = [*faults_of_manual(), *faults_of_files(), *shown.faults_of_shown_files()]
     if not faults:
         faults = [fault for it in commands for fault in faults_of_examples(it)]
-        for check in (faults_of_restarts, faults_of_changed_files, faults_of_script):
+        for check in OF_PROGRAM:
             faults += [fault for it in commands[1:] for fault in check(it)]
     for fault in faults:
         print(f"manual: {fault}")
     by = "by the program and the second reading" if len(commands) > 1 else "by the second reading alone"
-    print(f"manual: {len([*table()])} words, {len(ACCEPTED)} examples {by}, {len(faults)} faults")
+    examples, commands = len({**ACCEPTED, **forked.ACCEPTED}), sum(len(it) for _, it in shown.sessions())
+    counts = f"{len([*table()])} words, {examples} examples, {len(shown.shown_files())} files and {commands} commands shown"
+    print(f"manual: {counts}, {by}, {len(faults)} faults")
     return 1 if faults else 0
 
 

@@ -7,6 +7,7 @@ import sys
 
 from dakota import evaluate, points_of, summary
 from decimals import decimal_of, number_of, text_of
+from restart_file import Journal
 from study import Refused, read_study
 
 METHOD = "method vector_parameter_study num_steps = 2 step_vector = 0.5 0.5 "
@@ -230,7 +231,7 @@ def points(text):
 def ended(text):
     """The values of a study's rows, how it ended, and its best row."""
     study = read_study(text)
-    rows, attempts = evaluate(study)
+    rows, attempts = evaluate(study, Journal())
     end, _, best, *_ = summary(study, rows, attempts).splitlines()
     values = " ".join(text_of(it[-1]) for it in rows)
     return values, end.removeprefix("<<<<< Study "), int(best.removeprefix("<<<<< Best evaluation: "))

@@ -243,8 +243,8 @@ def rule_items(random):
 
 
 def interface_that_runs(random):
-    """The interface of a study that runs, with each rule for failures."""
-    block = interface(random, True, 1, Numbers(random))
+    """The interface of a study that runs, mostly without children, with each rule for failures."""
+    block = interface(random, random.random() < 0.7, 1, Numbers(random))
     others = [it for it in block.items if it.word not in ("failure_capture", *RULES)]
     return Block("interface", others + rule_items(random))
 

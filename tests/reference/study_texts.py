@@ -8,7 +8,8 @@ from study import FILES, KEYWORDS, MAY_HAVE, MODES, NEEDS, REFUSED, RULES, TABLE
 
 METHODS = sorted(NEEDS)
 TABLE_NAMES = ["t.dat", "t.dat", "u.dat", "a b.dat", "sub/t.dat", "./t.dat", "it's", "s.in", "sub", "none/t.dat", "n" * 300, " "]
-DRIVERS = ["sh run.sh", "run", " a  b ", "rosenbrock", "sh -c 'x # y, z = 1 \\'", "fork", "~"]
+# Of these only run.sh leaves values.
+DRIVERS = ["run", " a  b ", "rosenbrock", "sh -c 'x # y, z = 1 \\'", "fork", "~", *["sh run.sh"] * 12, "sh  run.sh 'a # * $HOME "]
 FILE_NAMES = ["p.in", "P.in", "r.out", " ", "a/b", "x" * 300, "params.in", "results.out"]
 
 
