@@ -3,24 +3,17 @@
 #ifndef FILES_H
 #define FILES_H
 
+#include "decimal.h"
+
 #include <spawn.h>
 #include <stdbool.h>
 #include <stddef.h>
 #include <sys/types.h>
 
-typedef unsigned __int128 u128;
-
 enum { MOST_LABELS = 100, MOST_WORDS = 16, LONGEST_LINE = 320, MOST_LEFT = 65536 };
 
 /* The sizes of a restart file's parts, and the most bytes of a payload with the gate behind it. */
 enum { GATE = 1, MAGIC = 8, COUNT = 2, DECIMAL = 18, ATTEMPT = 4, KIND = 1, MOST_PAYLOAD = 1 << 16 };
-
-/* A mantissa below 10^34 that 10 doesn't divide, and an exponent; 0 and 0 for zero. */
-typedef struct {
-    u128 mantissa;
-    int exponent;
-    bool negative;
-} decimal;
 
 /* A piece of a text. */
 typedef struct {

@@ -1,21 +1,14 @@
 /* The same study in C, for a comparison of times: study FILE writes t.dat and prints the summary. A decimal is a pair
  * of a mantissa below 10^34 and an exponent. It reads the numbers of a vector study by steps or of a grid that is known to
  * be good, and refuses nothing. */
-#include <stdbool.h>
+#include "decimal.h"
+
 #include <stdint.h>
 #include <stdio.h>
 #include <stdlib.h>
 #include <string.h>
 
-typedef unsigned __int128 u128;
-
 enum { MOST_DIGITS = 34, MOST_EXPONENT = 9999, LINE = 256 };
-
-typedef struct {
-    u128 mantissa;
-    int exponent;
-    bool negative;
-} decimal;
 
 typedef struct {
     decimal x1, x2, value;
