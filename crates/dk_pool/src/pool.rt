@@ -1,8 +1,10 @@
 // Rows of decimals, in room that is made once.
-ghost use Rattle.std.specs.Prelude.{◌≡◌, ◌+◌, ◌*◌, ◌^◌, ◌<◌, ◌≤◌, [], ◌∷◌, ◌++◌, length, take, slice_get, Some, IfOk};
+ghost use Rattle.std.specs.Prelude.{◌≡◌, ◌+◌, ◌*◌, ◌^◌, ◌<◌, ◌≤◌, [], ◌∷◌, ◌++◌, length, map, take, set, get_or, slice_get, unsigned_abs, Some, IfOk};
+ghost use Rattle.std.specs.List.{All};
+ghost use Rattle.dk_num.specs.Units.{in_units, IsUnitExponent};
 
 use crate::region::Region;
-use dk_num::Dec;
+use dk_num::{Dec, Unit, from_units};
 use std::alloc::{AllocError, Global};
 use std::marker::Model;
 
@@ -117,6 +119,45 @@ impl Pool {
         RowId { index }
     }
 
+    /// Puts a row of the width behind the others, where there is room for one, and names it: the decimals of these whole numbers
+    /// of a unit, of at most 34 digits each.
+    ///
+    /// Afterwards there is room for one row fewer, and the rows before it are as they were.
+    pub fn put_units(&mut self, units: &[i128], unit: Unit) -> RowId
+        requires has_room { 1 ≤ self.old.spare }
+        requires has_width { length units.now ≡ self.old.width }
+        requires is_unit_exponent { IsUnitExponent unit.exponent }
+        requires are_small { All (λ k. unsigned_abs k < 10 ^ 34) units.now }
+        ensures adds_row { self.new.rows ≡ self.old.rows ++ map (in_units unit.exponent) units.now ∷ [] }
+        ensures keeps_width { self.new.width ≡ self.old.width }
+        ensures takes_room { self.new.spare + 1 ≡ self.old.spare }
+        ensures names_row { result.index ≡ length self.old.rows }
+    {
+        let id = RowId {
+            index: self.count as u32,
+        };
+        if let Some(region) = &mut self.region {
+            write_units(region, self.count * self.width, units, unit);
+        }
+        self.count += 1;
+        id
+    }
+
+    /// Writes a decimal over the one at this place, counted from 0, of the row of this name, which is there.
+    ///
+    /// All other decimals stay as they were.
+    pub fn set(&mut self, id: RowId, place: usize, number: Dec)
+        requires is_there { id.index < length self.old.rows }
+        requires is_place { place < self.old.width }
+        ensures sets_number { self.new.rows ≡ set self.old.rows id.index (set (get_or self.old.rows id.index []) place number) }
+        ensures keeps_width { self.new.width ≡ self.old.width }
+        ensures keeps_room { self.new.spare ≡ self.old.spare }
+    {
+        if let Some(region) = &mut self.region {
+            region.write(id.index as usize * self.width + place, number);
+        }
+    }
+
     /// The row of this name, which is there.
     pub fn row(&self, id: RowId) -> &[Dec]
         requires is_there { id.index < length self.now.rows }
@@ -139,5 +180,19 @@ impl Pool {
         ensures gives_room_back { self.new.spare + length self.new.rows ≡ self.old.spare + length self.old.rows }
     {
         self.count = rows;
+    }
+}
+
+/// Writes the decimals of these whole numbers of a unit from this place on, over those that are there and behind the last.
+fn write_units(region: &mut Region<Dec, Global>, start: usize, units: &[i128], unit: Unit)
+    requires within { (start ≤ length region.old.values) × (start + length units.now ≤ region.old.room) }
+    requires is_unit_exponent { IsUnitExponent unit.exponent }
+    requires are_small { All (λ k. unsigned_abs k < 10 ^ 34) units.now }
+    ensures block { (region.new.room ≡ region.old.room) × (region.new.alloc ≡ region.old.alloc) }
+    ensures written { take (start + length units.now) region.new.values ≡ take start region.old.values ++ map (in_units unit.exponent) units.now }
+    ensures reaches { start + length units.now ≤ length region.new.values }
+{
+    for place in 0..units.len() {
+        region.write(start + place, from_units(units[place], unit));
     }
 }

@@ -48,7 +48,7 @@ impl<T, A: Allocator> Region<T, A> {
     }
 
     /// Writes the value at this place: over the one that is there, which is forgotten, or behind the last.
-    fn write(&mut self, place: usize, value: T)
+    pub(crate) fn write(&mut self, place: usize, value: T)
         requires { (place ≤ length self.old.values) × (place < self.old.room) }
         ensures { (self.new.room ≡ self.old.room) × (self.new.alloc ≡ self.old.alloc) × (self.new.values ≡ put self.old.values place value) }
     {

@@ -1,6 +1,6 @@
 //! Pools of few rows.
 use crate::{Pool, RowId};
-use dk_num::Dec;
+use dk_num::{Dec, Unit};
 use std::marker::{Send, Sync};
 use std::test::Fail;
 
@@ -23,6 +23,30 @@ fn rows_stand_in_order(rt: HostRuntime) -> Result<(), Fail> {
     assert_eq!(rt; (pool.count(), pool.spare()), (2, 0));
     assert_eq!(rt; pool.row(first), [Dec::whole(5)].as_slice());
     assert_eq!(rt; pool.row(second), [Dec::whole(7)].as_slice());
+    Ok(())
+}
+
+/// Rows are put as numbers of tenths. A number that is set is the only one that changes.
+#[test]
+fn rows_of_units_are_changed(rt: HostRuntime) -> Result<(), Fail> {
+    let tenths = Unit { exponent: -1 };
+    let mut pool = Pool::reserve(rt.alloc(), 2, 2)?;
+    let first = pool.put_units(&[50, 60], tenths);
+    let second = pool.put_units(&[70, -80], tenths);
+    assert_eq!(rt; (first, second), (RowId { index: 0 }, RowId { index: 1 }));
+    assert_eq!(rt; (pool.count(), pool.spare(), pool.width()), (2, 0, 2));
+    assert_eq!(rt; pool.row(first), [Dec::whole(5), Dec::whole(6)].as_slice());
+    assert_eq!(rt;
+        pool.row(second),
+        [Dec::whole(7), Dec::whole(-8)].as_slice()
+    );
+
+    pool.set(first, 1, Dec::whole(9));
+    assert_eq!(rt; pool.row(first), [Dec::whole(5), Dec::whole(9)].as_slice());
+    assert_eq!(rt;
+        pool.row(second),
+        [Dec::whole(7), Dec::whole(-8)].as_slice()
+    );
     Ok(())
 }
 
