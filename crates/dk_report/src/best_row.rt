@@ -2,7 +2,8 @@
 ghost use Rattle.std.specs.Prelude.{◌≡◌, ◌-◌, ◌<◌, ◌≤◌, length, position, option_map, None, Some, IfSome};
 ghost use Rattle.std.specs.List.{All};
 ghost use Rattle.dk_types.specs.Best.{best as best_place, is_below as is_below_defined, is_least};
-ghost use Rattle.dk_report.specs.Widths.{HaveWidths, HasOneObjective};
+ghost use Rattle.dk_types.specs.Widths.{HaveWidths};
+ghost use Rattle.dk_report.specs.Objectives.{HasOneObjective};
 
 use dk_num::Dec;
 use dk_types::{Rows, Study};

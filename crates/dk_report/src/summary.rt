@@ -6,7 +6,7 @@ ghost use Rattle.dk_outside.specs.Sinks.{WritesText};
 ghost use Rattle.dk_types.specs.Best.{best as best_place};
 ghost use Rattle.dk_types.specs.Texts.{summary, why_text, ending_line, counts_line, best_lines, best_text, setting, settings_after};
 ghost use Rattle.dk_types.specs.declared.study.Ending.TheVariants.{Finished, Aborted};
-ghost use Rattle.dk_report.specs.Widths.{HaveWidths};
+ghost use Rattle.dk_types.specs.Widths.{HaveWidths};
 
 use crate::best_row::best;
 use crate::numbers::{put_decimal, put_number};

@@ -1,5 +1,5 @@
 //! The texts of small studies, byte for byte.
-ghost use Rattle.dk_report.specs.Widths.{HaveWidths};
+ghost use Rattle.dk_types.specs.Widths.{HaveWidths};
 ghost use Rattle.std.specs.Prelude.{IsTrue};
 
 mod memory;

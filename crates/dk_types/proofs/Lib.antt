@@ -1,3 +1,5 @@
+pub mod Searched
+pub mod Following
 pub mod SamePoints
 pub mod Attempts
 pub mod SummedUp
@@ -8,3 +10,4 @@ pub mod Alone
 pub mod Growth
 pub mod RuleAnswers
 pub mod Placed
+pub mod Below

@@ -1,6 +1,5 @@
 -- A study comes to one thing, in one way; where a child answers each attempt, it ends.
-use Rattle.std.proofs.Common.{◌≡◌, ℕ, zero, suc, ◌+◌, ◌≤◌, Bool, true, false, List, [], ◌∷◌, length, Some, subst, sym, ap, ◌∙◌, refl, arith, length-append, nat_lt}
-use Rattle.std.proofs.lemmas.Grind.{common_steps}
+use Rattle.std.proofs.Common.{◌≡◌, ℕ, zero, suc, ◌+◌, ◌≤◌, true, false, List, [], ◌∷◌, length, Some, subst, sym, ap, ◌∙◌, refl, arith, length-append}
 use Rattle.dk_num.specs.Decimal.{Decimal}
 use Rattle.dk_types.specs.declared.study.Study.{Study}
 use Rattle.dk_types.specs.declared.study.FailRule.{FailRule}
@@ -8,17 +7,17 @@ use Rattle.dk_types.specs.declared.study.FailRule.TheVariants.{Abort, Retry, Rec
 use Rattle.dk_types.specs.declared.study.Ending.{Ending}
 use Rattle.dk_types.specs.declared.study.Ending.TheVariants.{Finished, Aborted}
 use Rattle.dk_types.specs.declared.study.Why.{Why}
-use Rattle.dk_types.specs.declared.study.Why.TheVariants.{Complete}
 use Rattle.dk_types.specs.declared.entry.Said.{Said}
 use Rattle.dk_types.specs.declared.entry.Said.TheVariants.{Values, Failed}
 use Rattle.dk_types.specs.declared.rows.Row.{Row}
-use Rattle.dk_types.specs.Points.{point, size}
+use Rattle.dk_types.specs.Limits.{limit}
 use Rattle.dk_types.specs.Planned as planned
 use Rattle.dk_types.specs.Planned.{next, At, Over}
 use Rattle.dk_types.specs.Answers.{Answer, Value, Dead, Next, retries, given_up, by_attempt, answer_from}
 use Rattle.dk_types.specs.Solo.{Alone, finished, aborted, waits, goes_on, Outcomes, outcomes_of, Child, Verdict, Ended, Open, with_row}
 use Rattle.dk_types.specs.Laws.{ComesOnce, EndsOnce, answer_in}
 use Rattle.dk_types.specs.EntryLaws.{is_answered}
+use Rattle.dk_types.proofs.Following.{IsAhead, is_ahead}
 
 -- what follows where a study comes from these rows to those others and that verdict: by what the next point's attempts
 -- come to
@@ -63,12 +62,6 @@ alone_once study outcomes _ _ others _ other (waits rows p attempt e a) t = turn
 alone_once study outcomes _ _ others _ other (goes_on rows p v last verdict e a s) t =
     alone_once study outcomes (with_row rows p v) last others verdict other s (turns_by study outcomes rows others other p (Value v) e a t)
 
-pub next_over : (study : Study) (rows : List Row) → nat_lt (length rows) (size study) ≡ false → next study rows ≡ Over Complete
-next_over study rows e = rw e refl
-
-pub next_at : (study : Study) (rows : List Row) → nat_lt (length rows) (size study) ≡ true → next study rows ≡ At (point study (length rows))
-next_at study rows e = rw e refl
-
 pub length_more : (rows : List Row) (p v : List Decimal) → length (with_row rows p v) ≡ length rows + 1
 length_more rows p v = length-append rows (record { point = p; values = v } ∷ [])
 
@@ -78,29 +71,28 @@ record SomeEnd (study : Study) (outcomes : Outcomes) (rows : List Row) : Type 0 
   verdict : Verdict
   comes : Alone study outcomes rows last verdict
 
-is_late : (m n k : ℕ) → n ≤ m + zero → nat_lt m n ≡ false
-is_late m n k h = grind (arith, common_steps)
-
--- so many points are left at most
-some_end : (turns : ℕ) (study : Study) (outcomes : Outcomes) (rows : List Row) → size study ≤ length rows + turns → SomeEnd study outcomes rows
-some_end zero study outcomes rows h =
-    record { last = rows; verdict = Ended (Finished Complete); comes = finished rows Complete (next_over study rows (is_late (length rows) (size study) 0 h)) }
+-- so many points come at most
+some_end : (turns : ℕ) (study : Study) (outcomes : Outcomes) (rows : List Row) → limit study + 1 ≤ length rows + turns → SomeEnd study outcomes rows
+some_end zero study outcomes rows h = at (next study rows) refl
+  where
+    at : (n : planned.Next) → next study rows ≡ n → SomeEnd study outcomes rows
+    at (Over why) e = record { last = rows; verdict = Ended (Finished why); comes = finished rows why e }
+    at (At p) e = absurd (let k : IsAhead study rows p = is_ahead study rows p e in let r = k.room.all in omega arith)
 some_end (suc turns) study outcomes rows h =
-    at (nat_lt (length rows) (size study)) refl
-    (λ v. some_end turns study outcomes (with_row rows (point study (length rows)) v) (let l = length_more rows (point study (length rows)) v in omega arith))
+    at (next study rows) refl (λ p v. some_end turns study outcomes (with_row rows p v) (let l = length_more rows p v in omega arith))
   where
     answered : (p : List Decimal) (a : Answer) → next study rows ≡ At p → answer_in study outcomes p ≡ a → ((v : List Decimal) → SomeEnd study outcomes (with_row rows p v)) → SomeEnd study outcomes rows
     answered p (Value v) e a rest = let r : SomeEnd study outcomes (with_row rows p v) = rest v in record { last = r.last; verdict = r.verdict; comes = goes_on rows p v r.last r.verdict e a r.comes }
     answered p (Dead attempts) e a rest = record { last = rows; verdict = Ended (Aborted (length rows + 1) attempts); comes = aborted rows p attempts e a }
     answered p (Next attempt) e a rest = record { last = rows; verdict = Open p attempt; comes = waits rows p attempt e a }
 
-    at : (b : Bool) → nat_lt (length rows) (size study) ≡ b → ((v : List Decimal) → SomeEnd study outcomes (with_row rows (point study (length rows)) v)) → SomeEnd study outcomes rows
-    at false e rest = record { last = rows; verdict = Ended (Finished Complete); comes = finished rows Complete (next_over study rows e) }
-    at true e rest = answered (point study (length rows)) (answer_in study outcomes (point study (length rows))) (next_at study rows e) refl rest
+    at : (n : planned.Next) → next study rows ≡ n → ((p v : List Decimal) → SomeEnd study outcomes (with_row rows p v)) → SomeEnd study outcomes rows
+    at (Over why) e rest = record { last = rows; verdict = Ended (Finished why); comes = finished rows why e }
+    at (At p) e rest = answered p (answer_in study outcomes p) e refl (rest p)
 
 pub each_comes_once : (study : Study) (outcomes : Outcomes) → ComesOnce study outcomes
 each_comes_once study outcomes =
-    let e : SomeEnd study outcomes [] = some_end (size study) study outcomes [] (omega arith) in
+    let e : SomeEnd study outcomes [] = some_end (limit study + 1) study outcomes [] (omega arith) in
     record { rows = e.last; verdict = e.verdict; comes = e.comes; only = λ others other t. alone_once study outcomes [] e.last others e.verdict other e.comes t }
 
 -- where each attempt gives something, none is to be made next

@@ -1,28 +1,24 @@
 -- Places in the sheet.
-use Rattle.std.proofs.Common.{◌≡◌, ◌⊎◌, inl, inr, ℕ, zero, suc, ◌+◌, ◌-◌, ◌<◌, Bool, true, false, cond, List, [], ◌∷◌, ◌++◌, length, map, ◌==◌, ◌&&◌, Option, Some, None, option_map, refl, sym, ap, ◌∙◌, subst, arith, append_assoc, append-nil, nat_lt}
+use Rattle.std.proofs.Common.{◌≡◌, ℕ, suc, ◌+◌, Bool, true, false, cond, List, [], ◌∷◌, ◌++◌, length, map, ◌==◌, ◌&&◌, Option, Some, None, option_map, refl, sym, ap, ◌∙◌, arith, append_assoc, append-nil}
 use Rattle.std.specs.Prelude.{slice_get}
 use Rattle.std.specs.List.{find}
-use Rattle.std.proofs.lemmas.Grind.{common_steps}
-use Rattle.std.proofs.lemmas.List.{map-append, length-map}
+use Rattle.std.proofs.lemmas.List.{map-append}
 use Rattle.dk_num.specs.Decimal.{Decimal}
 use Rattle.dk_types.specs.declared.study.Study.{Study}
-use Rattle.dk_types.specs.declared.study.Ending.{Ending}
-use Rattle.dk_types.specs.declared.study.FailRule.{FailRule}
 use Rattle.dk_types.specs.declared.entry.Entry.{Entry}
-use Rattle.dk_types.specs.declared.entry.Said.{Said}
 use Rattle.dk_types.specs.declared.rows.Row.{Row}
 use Rattle.dk_types.specs.Best.{same_point}
-use Rattle.dk_types.specs.Points.{point, size}
-use Rattle.dk_types.specs.Planned.{next, At, Over, rest, points_from}
+use Rattle.dk_types.specs.Planned.{next, At, rest}
 use Rattle.dk_types.specs.Entries.{said}
-use Rattle.dk_types.specs.Answers.{Answer, Value, Dead, Next, answer_by}
-use Rattle.dk_types.specs.Laws.{ComesOnce, AnswersPoints, answer_in}
-use Rattle.dk_types.specs.Solo.{Alone, finished, aborted, waits, goes_on, Outcomes, Verdict, Ended, Open, Seq, with_row}
+use Rattle.dk_types.specs.Answers.{Value, Next}
+use Rattle.dk_types.specs.Laws.{ComesOnce, AnswersInOrder, answer_in}
+use Rattle.dk_types.specs.Solo.{Alone, finished, aborted, waits, goes_on, Outcomes, Verdict, Open, with_row}
 use Rattle.dk_types.proofs.SamePoints.{same_alike, same_itself}
-use Rattle.dk_types.proofs.Alone.{rows_are_points}
-use Rattle.dk_types.proofs.Once.{next_over, next_at, length_more, each_comes_once}
+use Rattle.dk_types.proofs.Following.{IsAhead, is_ahead}
+use Rattle.dk_types.proofs.Alone.{rows_in_order}
+use Rattle.dk_types.proofs.Once.{each_comes_once}
 use Rattle.dk_types.proofs.Growth.{said_more, alone_leads, answer_same}
-use Rattle.dk_types.specs.Sheets.{sheet, place_among, IsPlace, PlacesStay, SamePointSamePlace, NextHasPlace}
+use Rattle.dk_types.specs.Sheets.{sheet, place_among, PlacesStay, SamePointSamePlace, NextHasPlace}
 
 -- Lists of points
 
@@ -61,34 +57,49 @@ among_last (row ∷ rows) p more apart itself =
 
 -- A row more
 
--- the point that comes next stands first in what is left, and the rest stays
-pub rest_step : (study : Study) (rows : List Row) (p v : List Decimal) → next study rows ≡ At p → rest study rows ≡ p ∷ rest study (with_row rows p v)
-rest_step study rows p v e = at (nat_lt (length rows) (size study)) refl
-  where
-    at : (b : Bool) → nat_lt (length rows) (size study) ≡ b → rest study rows ≡ p ∷ rest study (with_row rows p v)
-    at false h = let k = next_over study rows h in absurd (cc)
-    at true h =
-        let left : length rows < size study = grind (arith, common_steps) in
-        let long = length_more rows p v in
-        let count : size study - length rows ≡ suc (size study - length (with_row rows p v)) = omega arith in
-        let is : p ≡ point study (length rows) = (let k = next_at study rows h in cc) in
-        ap (λ (n : ℕ). points_from study (length rows) n) count ∙ ap (λ (x : List Decimal). x ∷ points_from study (length rows + 1) (size study - length (with_row rows p v))) (sym is)
-        ∙ ap (λ (n : ℕ). p ∷ points_from study n (size study - length (with_row rows p v))) (let n : length rows + 1 ≡ length (with_row rows p v) = omega arith in n)
+begins_itself : (l : List (List Decimal)) → Begins l l
+begins_itself l = record { more = []; is = sym (append-nil l) }
 
-pub sheet_step : (study : Study) (rows : List Row) (p v : List Decimal) → next study rows ≡ At p → sheet study (with_row rows p v) ≡ sheet study rows
-sheet_step study rows p v e =
-    ap (λ (l : List (List Decimal)). l ++ rest study (with_row rows p v)) (map-append (λ (r : Row). r.point) rows (record { point = p; values = v } ∷ []))
-    ∙ append_assoc (map (λ (r : Row). r.point) rows) (p ∷ []) (rest study (with_row rows p v))
-    ∙ ap (λ (l : List (List Decimal)). map (λ (r : Row). r.point) rows ++ l) (sym (rest_step study rows p v e))
+begins_both : (whole middle front : List (List Decimal)) → Begins whole middle → Begins middle front → Begins whole front
+begins_both whole middle front a b = record { more = b.more ++ a.more; is = a.is ∙ ap (λ (l : List (List Decimal)). l ++ a.more) b.is ∙ append_assoc front b.more a.more }
+
+-- the point that comes next stands first in the batch; behind its row those behind it are still asked for, and once there
+-- is none, those of the next batch
+pub sheet_step : (study : Study) (rows : List Row) (p v : List Decimal) → next study rows ≡ At p → Begins (sheet study (with_row rows p v)) (sheet study rows)
+sheet_step study rows p v e = at k.behind refl
+  where
+    k : IsAhead study rows p
+    k = is_ahead study rows p e
+
+    added : Row
+    added = record { point = p; values = v }
+
+    points : List (List Decimal)
+    points = map (λ (r : Row). r.point) rows
+
+    here : (behind : List (List Decimal)) → k.behind ≡ behind → sheet study rows ≡ points ++ p ∷ behind
+    here behind h = ap (λ (l : List (List Decimal)). points ++ l) k.batch ∙ ap (λ (l : List (List Decimal)). points ++ p ∷ l) h
+
+    then : sheet study (with_row rows p v) ≡ points ++ p ∷ rest study (with_row rows p v)
+    then = ap (λ (l : List (List Decimal)). l ++ rest study (with_row rows p v)) (map-append (λ (r : Row). r.point) rows (added ∷ [])) ∙ append_assoc points (p ∷ []) (rest study (with_row rows p v))
+
+    at : (behind : List (List Decimal)) → k.behind ≡ behind → Begins (sheet study (with_row rows p v)) (sheet study rows)
+    at [] h = record {
+      more = rest study (with_row rows p v);
+      is = then ∙ sym (append_assoc points (p ∷ []) (rest study (with_row rows p v))) ∙ ap (λ (l : List (List Decimal)). l ++ rest study (with_row rows p v)) (sym (here [] h));
+    }
+    at (q ∷ more) h = record {
+      more = [];
+      is = then ∙ ap (λ (l : List (List Decimal)). points ++ p ∷ l) (k.goes_on added q more h).1 ∙ sym (here (q ∷ more) h) ∙ sym (append-nil (sheet study rows));
+    }
 
 -- a study's sheet grows from the rows that it begins with
 pub sheet_grows : (study : Study) (f : Outcomes) (rows last : List Row) (verdict : Verdict) → Alone study f rows last verdict → Begins (sheet study last) (sheet study rows)
-sheet_grows study f _ _ _ (finished rows why e) = record { more = []; is = sym (append-nil (sheet study rows)) }
-sheet_grows study f _ _ _ (aborted rows p attempts e a) = record { more = []; is = sym (append-nil (sheet study rows)) }
-sheet_grows study f _ _ _ (waits rows p attempt e a) = record { more = []; is = sym (append-nil (sheet study rows)) }
+sheet_grows study f _ _ _ (finished rows why e) = begins_itself (sheet study rows)
+sheet_grows study f _ _ _ (aborted rows p attempts e a) = begins_itself (sheet study rows)
+sheet_grows study f _ _ _ (waits rows p attempt e a) = begins_itself (sheet study rows)
 sheet_grows study f _ _ _ (goes_on rows p v last verdict e a s) =
-    let k = sheet_grows study f (with_row rows p v) last verdict s in
-    record { more = k.more; is = k.is ∙ ap (λ (l : List (List Decimal)). l ++ k.more) (sheet_step study rows p v e) }
+    begins_both (sheet study last) (sheet study (with_row rows p v)) (sheet study rows) (sheet_grows study f (with_row rows p v) last verdict s) (sheet_step study rows p v e)
 
 pub same_point_same_place : SamePointSamePlace
 same_point_same_place study entries p q row e is = record { rows = is.rows; verdict = is.verdict; comes = is.comes; at = sym (among_same (sheet study is.rows) p q e) ∙ is.at }
@@ -124,15 +135,12 @@ apart study entries q p v attempt one other = at (same_point q p) refl
 
 pub next_has_place : NextHasPlace
 next_has_place study entries rows p attempt comes =
-    let k : AnswersPoints study (said entries) rows (Open p attempt) = rows_are_points study (said entries) rows (Open p attempt) comes in
-    let waiting : answer_in study (said entries) p ≡ Next attempt = ap (answer_in study (said entries)) k.stands.2 ∙ k.stands.1 in
-    let left : length rows < size study = k.stands.0 in
-    let test : nat_lt (length rows) (size study) ≡ true = grind (arith, common_steps) in
-    let is : next study rows ≡ At p = next_at study rows test ∙ ap At (sym k.stands.2) in
+    let o : AnswersInOrder study (said entries) rows (Open p attempt) = rows_in_order study (said entries) rows (Open p attempt) comes in
+    let k : IsAhead study rows p = is_ahead study rows p o.stands.0 in
     record {
       rows = rows;
       verdict = Open p attempt;
       comes = comes;
-      at = ap (λ (l : List (List Decimal)). place_among (map (λ (r : Row). r.point) rows ++ l) p) (rest_step study rows p [] is)
-          ∙ among_last rows p (rest study (with_row rows p [])) (λ i row h. apart study entries row.point p row.values attempt (k.values i row h) waiting) (same_itself p);
+      at = ap (λ (l : List (List Decimal)). place_among (map (λ (r : Row). r.point) rows ++ l) p) k.batch
+          ∙ among_last rows p k.behind (λ i row h. apart study entries row.point p row.values attempt (o.values i row h) o.stands.1) (same_itself p);
     }

@@ -2,9 +2,11 @@ pub mod Points
 pub mod Limits
 pub mod Labels
 pub mod Sound
+pub mod Search
 pub mod Planned
 pub mod Entries
 pub mod Answers
+pub mod Widths
 pub mod Rules
 pub mod Cards
 pub mod Solo

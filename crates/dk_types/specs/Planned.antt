@@ -1,30 +1,58 @@
--- Which points come next in a study whose points are known from the beginning, and in which batch.
-use Rattle.std.specs.Prelude.{◌≡◌, ℕ, ◌+◌, ◌-◌, ◌≤◌, List, ◌++◌, length, map, nat_lt, if◌then◌else◌}
+-- Which points come next in a study, and in which batch.
+use Rattle.std.specs.Prelude.{◌≡◌, ℕ, ◌+◌, ◌-◌, ◌≤◌, ℤ, List, [], ◌∷◌, ◌++◌, length, map, nat_lt, if◌then◌else◌}
 use Rattle.std.specs.List.{range_with_len}
 use Rattle.dk_num.specs.Decimal.{Decimal}
+use Rattle.dk_num.specs.Units.{in_units}
 use Rattle.dk_types.specs.declared.study.Study.{Study}
+use Rattle.dk_types.specs.declared.study.Method.{Method}
+use Rattle.dk_types.specs.declared.study.Method.TheVariants as method
 use Rattle.dk_types.specs.declared.study.Why.{Why}
 use Rattle.dk_types.specs.declared.study.Why.TheVariants.{Complete}
 use Rattle.dk_types.specs.declared.rows.Row.{Row}
 use Rattle.dk_types.specs.declared.planner.Plan.{Plan}
 use Rattle.dk_types.specs.declared.planner.Plan.TheVariants.{Batch, Finished}
 use Rattle.dk_types.specs.Points.{point, size}
+use Rattle.dk_types.specs.Search.{search, Found, Poll, Ends}
 
 pub data Next : Type 0 where
   At : List Decimal → Next
   Over : Why → Next
 
--- what comes after these rows: the next point, or the end
-abbrev pub next : Study → List Row → Next
-next study rows = if nat_lt (length rows) (size study) then At (point study (length rows)) else Over Complete
-
--- so many points from this one on
+-- so many points from this one on, of a study whose points are known from the beginning
 abbrev pub points_from : Study → (i count : ℕ) → List (List Decimal)
 points_from study i count = map (point study) (range_with_len i count)
 
--- the points of the current batch from the next one on: all that are left
+-- what a search found, as decimals
+abbrev pub next_found : (exponent : ℤ) → Found → Next
+next_found exponent (Poll p behind) = At (map (in_units exponent) p)
+next_found exponent (Ends why) = Over why
+
+abbrev pub rest_found : (exponent : ℤ) → Found → List (List Decimal)
+rest_found exponent (Poll p behind) = map (in_units exponent) p ∷ map (map (in_units exponent)) behind
+rest_found exponent (Ends why) = []
+
+-- the values of rows, in order
+abbrev pub values_in : List Row → List (List Decimal)
+values_in rows = map (λ row. row.values) rows
+
+-- by the method of a study: a compass search goes by the values so far, and each other study from one point to the next
+abbrev pub next_by : Study → List Row → Method → Next
+next_by study rows (method.Compass delta threshold iterations evaluations) =
+    next_found study.unit.exponent (search study.variables delta threshold iterations evaluations (values_in rows))
+next_by study rows _ = if nat_lt (length rows) (size study) then At (point study (length rows)) else Over Complete
+
+abbrev pub rest_by : Study → List Row → Method → List (List Decimal)
+rest_by study rows (method.Compass delta threshold iterations evaluations) =
+    rest_found study.unit.exponent (search study.variables delta threshold iterations evaluations (values_in rows))
+rest_by study rows _ = points_from study (length rows) (size study - length rows)
+
+-- what comes after these rows: the next point, or the end
+abbrev pub next : Study → List Row → Next
+next study rows = next_by study rows study.method
+
+-- the points of the current batch from the next one on: all that are left, or the polls of a search that have no values
 abbrev pub rest : Study → List Row → List (List Decimal)
-rest study rows = points_from study (length rows) (size study - length rows)
+rest study rows = rest_by study rows study.method
 
 -- the batch that begins behind these rows, or the end
 abbrev pub plan_by : (rows : ℕ) → List (List Decimal) → Next → Plan

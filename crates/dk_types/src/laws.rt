@@ -1,22 +1,33 @@
 //! Laws of the definitions. Each is the contract of a function that does nothing.
-ghost use Rattle.dk_types.specs.Laws.{EachStudyComesOnce, EachStudyEndsOnce, RowsAreThePoints};
+ghost use Rattle.dk_types.specs.Laws.{EachStudyComesOnce, EachStudyEndsOnce, RowsComeInOrder, RowsKeepTheLimit, RowsAreThePoints};
 ghost use Rattle.dk_types.specs.Rules.{EachRuleAnswers};
 ghost use Rattle.dk_types.specs.Sheets.{PlacesStay, SamePointSamePlace, NextHasPlace};
 ghost use Rattle.dk_types.specs.EntryLaws.{OthersKeepTheirAnswer, AnsweredStays, NextIsTheNextAttempt, CardsSayTheSame, EachCardsHaveEntries, DecidedStays, RowsStay, DecidedAlike, DecidedAsAlone};
 
-/// For each study whose points are known from the beginning, and whatever the attempts gave, there is just one list of
-/// rows and one verdict.
+/// For each study, and whatever the attempts gave, there is just one list of rows and one verdict.
 pub fn each_study_comes_once()
     ensures { EachStudyComesOnce }
 {}
 
-/// For each such study and each child there is just one list of rows and one ending.
+/// For each study and each child there is just one list of rows and one ending.
 pub fn each_study_ends_once()
     ensures { EachStudyEndsOnce }
 {}
 
-/// Row i has such a study's point i and what the attempts of this point come to. A study that finished has a row for each
-/// of its points; one that was aborted, or waits for an attempt, has none from the first point on that has no values.
+/// Each row has the point that comes next behind the rows before it, and what the attempts of this point come to. A study
+/// that finished has no next point; that of one that was aborted has no values, and that of another waits for an attempt.
+pub fn rows_come_in_order()
+    ensures { RowsComeInOrder }
+{}
+
+/// No accepted study has more rows than its limit, which is that of a compass search's `max_function_evaluations`.
+pub fn rows_keep_the_limit()
+    ensures { RowsKeepTheLimit }
+{}
+
+/// In a study whose points are known from the beginning, row i has point i and what the attempts of this point come to. A
+/// study that finished has a row for each of its points; one that was aborted, or waits for an attempt, has none from the
+/// first point on that has no values.
 pub fn rows_are_the_points()
     ensures { RowsAreThePoints }
 {}

@@ -1,5 +1,5 @@
 // Small types over vectors, which contracts see as lists.
-ghost use Rattle.std.specs.Prelude.{◌≡◌, IfOk};
+ghost use Rattle.std.specs.Prelude.{◌≡◌, ◌<◌, length, set, IfOk};
 
 use dk_num::Dec;
 use dk_outside::Text;
@@ -94,6 +94,14 @@ impl Units {
         ensures { IfOk result (λ u. u ≡ self.now) }
     {
         Units::of(alloc, self.items())
+    }
+
+    /// Writes a number over the one at this place, counted from 0.
+    pub fn set(&mut self, place: usize, number: i128)
+        requires is_place { place < length self.old }
+        ensures sets_number { self.new ≡ set self.old place number }
+    {
+        self.items[place] = number;
     }
 }
 

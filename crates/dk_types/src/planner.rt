@@ -1,8 +1,8 @@
 // What plans the points of a study.
-ghost use Rattle.std.specs.Prelude.{◌≡◌, ℕ, ◌+◌, ◌-◌, List, length, slice_get, Some, IsTrue};
+ghost use Rattle.std.specs.Prelude.{◌≡◌, ℕ, ◌+◌, ◌-◌, List, length, slice_get, Some};
 ghost use Rattle.dk_num.specs.Decimal.{Decimal};
 ghost use Rattle.dk_types.specs.Sound.{IsSound};
-ghost use Rattle.dk_types.specs.Points.{has_points};
+ghost use Rattle.dk_types.specs.Widths.{HaveWidths};
 ghost use Rattle.dk_types.specs.Planned.{rest, plan, AnswersLast, IsInBatch};
 ghost use Rattle.dk_types.specs.declared.study.Study.{Study};
 ghost use Rattle.dk_types.specs.declared.rows.Row.{Row};
@@ -33,11 +33,12 @@ pub trait Planner {
     /// The points of the last batch, in order; none before the first batch, and none once the study is finished.
     ghost batch: { Self → List (List Decimal) };
 
-    /// The next batch, or the end, of a study whose points are known from the beginning. The rows are those of all
-    /// batches handed out so far, in order, and begin with those that the call before was given.
+    /// The next batch, or the end. The rows are those of all batches handed out so far, in order, and begin with those
+    /// that the call before was given, values included. Each has a decimal for each variable and a value for each
+    /// response.
     fn next<R: Rows>(&mut self, rows: &R) -> Plan
         requires sound { IsSound (study self.old) }
-        requires points { IsTrue (has_points (study self.old).method) }
+        requires widths { HaveWidths (study self.old) (R.rows rows.now) }
         requires answered { AnswersLast (was_given self.old) (batch self.old) (R.rows rows.now) }
         ensures study { study self.new ≡ study self.old }
         ensures given { was_given self.new (R.rows rows.now) }

@@ -1,6 +1,5 @@
 // What is to be evaluated, and how it ends.
 ghost use Rattle.std.specs.Prelude.{◌≡◌, IfOk};
-ghost use Rattle.dk_types.specs.Points.{has_points as has_known_points};
 
 use crate::{Counts, Decs, Labels, Text, Units, Words};
 use dk_num::Unit;
@@ -73,21 +72,6 @@ pub enum Method {
         iterations: u32,
         evaluations: u32,
     },
-}
-
-impl Method {
-    /// Whether a study's points are known from the beginning, as those of each method but `compass_search`.
-    pub fn has_points(&self) -> bool
-        ensures tells_method { result ≡ has_known_points self.now }
-    {
-        match self {
-            Method::Vector { .. }
-            | Method::List { .. }
-            | Method::Centered { .. }
-            | Method::Multidim { .. } => true,
-            Method::Compass { .. } => false,
-        }
-    }
 }
 
 /// What evaluates a point: the function `rosenbrock` within the program (`direct`), or another program, by the words

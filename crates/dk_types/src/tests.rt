@@ -16,8 +16,10 @@ fn lists_are_what_they_are_made_of(rt: HostRuntime) -> Result<(), Fail> {
     assert_eq!(rt; labels.items()[0].as_str(), "x1");
     let units = Units::of(alloc, &[-7])?.copy(alloc)?;
     assert_eq!(rt; units.items(), [-7].as_slice());
-    let units = Units::of_vec(vec![in alloc; -7]?);
-    assert_eq!(rt; units.items(), [-7].as_slice());
+    let mut units = Units::of_vec(vec![in alloc; -7, -8]?);
+    assert_eq!(rt; units.items(), [-7, -8].as_slice());
+    units.set(1, 9);
+    assert_eq!(rt; units.items(), [-7, 9].as_slice());
     let counts = Counts::of(alloc, &[3])?.copy(alloc)?;
     assert_eq!(rt; counts.items(), [3].as_slice());
     let counts = Counts::of_vec(vec![in alloc; 3]?);

@@ -1,5 +1,5 @@
 -- How many numbers each row has.
-use Rattle.std.specs.Prelude.{◌≡◌, true, List, length}
+use Rattle.std.specs.Prelude.{◌≡◌, List, length}
 use Rattle.std.specs.List.{All}
 use Rattle.dk_types.specs.declared.study.Study.{Study}
 use Rattle.dk_types.specs.declared.rows.Row.{Row}
@@ -11,8 +11,3 @@ pub record HasWidths (study : Study) (row : Row) : Type 0 where
 
 abbrev pub HaveWidths : Study → List Row → Type 0
 HaveWidths study rows = All (HasWidths study) rows
-
--- just one objective function: then each row has a value to compare
-pub record HasOneObjective (study : Study) : Type 0 where
-  pub objectives : study.responses.objectives ≡ true
-  pub one : length study.responses.labels ≡ 1
