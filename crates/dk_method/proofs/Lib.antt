@@ -6,3 +6,15 @@ pub mod Batches
 pub mod PointLaws
 pub mod GridLaws
 pub mod Spanned
+pub mod NextSmall
+pub mod Onward
+pub mod Standing
+pub mod ReadValues
+pub mod Begun
+pub mod LeastPoll
+pub mod Polled
+pub mod Turning
+pub mod Trail
+pub mod Trodden
+pub mod SearchLaws
+mod WorkedSearches

@@ -11,7 +11,7 @@ use Rattle.std.proofs.lemmas.Int.{ints}
 use Rattle.std.proofs.lemmas.List.{ext_get_or, drop-drop, take_all, length-take-le, length-drop, length-set, get_or-set_other}
 use Rattle.std.proofs.lemmas.List.Elements.{All-get_or}
 use Rattle.dk_num.specs.Arithmetic.{whole_value}
-use Rattle.dk_num.specs.Rounding.{rounded_quotient, signed_as, IsNearest}
+use Rattle.dk_num.specs.Rounding.{rounded_quotient}
 use Rattle.dk_num.specs.Units.{IsUnitExponent, in_units}
 use Rattle.dk_num.proofs.Canonical.{abs_neg}
 use Rattle.dk_num.proofs.Quotients.{rounded_is_nearest}
@@ -29,10 +29,10 @@ use Rattle.dk_types.specs.Sound.{IsSound, IsPoint, IsBound, IsBetween, IsSoundMe
 use Rattle.dk_method.specs.declared.centered.Move.{Move}
 use Rattle.dk_method.specs.Moves.{IsMove}
 use Rattle.dk_method.specs.Laws.{AreChoices, place, IsMovedAlone, IsSmall, MovesOne}
-use Rattle.dk_method.specs.Extents.{width, number_at, IsPartWay, GoesOn, IsVector, IsOneOfParts, IsGrid, IsCentered}
+use Rattle.dk_method.specs.Extents.{width, IsPartWay, IsVector, IsOneOfParts, IsGrid, IsCentered}
 use Rattle.dk_method.proofs.Formulas.{steps_long, steps_at, way, way_long, way_at, towards_none, towards_some, grid_long, grid_at}
 use Rattle.dk_method.proofs.Moved.{zeros_long, no_move, around_centre, around_moved}
-use Rattle.dk_method.proofs.GridLaws.{grid_more, place_within, choices_there}
+use Rattle.dk_method.proofs.GridLaws.{grid_more, choices_there}
 use Rattle.dk_method.proofs.PointLaws.{choice_few, one_moved, move_is, quantities_are_small}
 
 -- Numbers

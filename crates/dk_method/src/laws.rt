@@ -1,6 +1,21 @@
 //! Laws of the points. Each is the contract of a function that does nothing.
 ghost use Rattle.dk_method.specs.Laws.{EachChoiceOnce, EachMoveOnce, EachQuantityIsSmall};
+ghost use Rattle.dk_method.specs.Searches.{EachSearchStepsOn, EachSearchEndsAtItsBest};
 ghost use Rattle.dk_method.specs.Extents.{EachPointIsWhole, EachPointHasItsValues, EachVectorGoesOn, EachListIsItsNumbers, EachGridSpansItsBounds, EachCenteredBeginsAtItsCentre};
+
+/// In a compass search (`compass_search`) the first row's point is the initial one, and that of each other row lies a step
+/// away from an earlier row's, in one direction, and keeps the bounds that are given (`lower_bounds`, `upper_bounds`). The
+/// step is `initial_delta` halved so and so often: from row to row it never grows.
+pub fn each_search_steps_on()
+    ensures holds { EachSearchStepsOn }
+{}
+
+/// Where a compass search ends well, it ends at its best row, and where it ends since its step came below the threshold
+/// (`threshold_delta`), that row is stationary: each point one last step away from it, in whatever direction keeps the bounds,
+/// was evaluated, and none is below it (Kolda, Lewis and Torczon, section 3). Half that step is below the threshold.
+pub fn each_search_ends_at_its_best()
+    ensures holds { EachSearchEndsAtItsBest }
+{}
 
 /// In each study that is accepted, each number of each point has at most 34 digits in units, so that an i128 holds it.
 pub fn each_quantity_is_small()

@@ -5,6 +5,7 @@ mod centered;
 mod grid;
 pub mod laws;
 mod planning;
+mod search;
 #[cfg(test)]
 mod tests;
 mod vector;

@@ -2,27 +2,32 @@
 ghost use Rattle.std.specs.Prelude.{◌≡◌, ◌<◌, IfOk, IsTrue, length};
 ghost use Rattle.dk_types.specs.Sound.{IsSound};
 ghost use Rattle.dk_types.specs.Points.{has_points, point, size};
-ghost use Rattle.dk_method.specs.Plans.{PlanningState};
+ghost use Rattle.dk_method.specs.Plans.{IsNew, BeginsBy};
 
 use crate::centered::put_around;
 use crate::grid::put_bounded;
+use crate::search::{Search, Terms};
 use crate::vector::{put_after_steps, put_towards};
 use crate::written::put_listed;
 use dk_num::Dec;
+use dk_pool::RowId;
 use dk_types::{Method, Plan, Planner, Rows, Study, Way, Why};
 use std::alloc::{AllocError, Global};
 use std::marker::Model;
 
-/// A planner of a vector, list, centered or multidimensional study (`vector_parameter_study`, `list_parameter_study`,
-/// `centered_parameter_study`, `multidim_parameter_study`). It keeps the study and how many rows it was given, and no
-/// points: each is computed when it is asked for.
+/// A planner of a study of any method: `vector_parameter_study`, `list_parameter_study`, `centered_parameter_study`,
+/// `multidim_parameter_study` or `compass_search`. It keeps the study and how many rows it was given. The points of the
+/// first four are computed when they are asked for; those of a compass search are chosen by the values of the rows, one
+/// iteration after another, and kept until the next batch.
 #[derive(Drop)]
 pub struct Planning {
     study: Study,
     /// How many rows the last call of `next` was given.
     before: u32,
-    /// How many points the batch behind them has.
+    /// How many points the batch behind them has, where the points are known from the beginning.
     count: u32,
+    /// A compass search's search.
+    search: Option<Search>,
 }
 
 impl Model for Planning {
@@ -30,38 +35,65 @@ impl Model for Planning {
 
     ghost Value = { PlanningState };
 
-    ghost view = { λ p. record { study = p.study; before = p.before; count = p.count } };
+    ghost view = { λ p. record { study = p.study; before = p.before; count = p.count; search = p.search } };
 
-    ghost invariant = { λ p. IsPlanningState (record { study = p.study; before = p.before; count = p.count }) };
+    ghost invariant = { λ p. IsPlanningState (record { study = p.study; before = p.before; count = p.count; search = p.search }) };
 }
 
-/// A plan of a study, of which no batch is handed out yet. The study's method isn't `compass_search`. Only want of memory
-/// is an error.
+/// A plan of a study, of which no batch is handed out yet. Only want of memory is an error, and no later call takes memory.
 pub fn plan_of(alloc: Global, study: &Study) -> Result<Planning, AllocError>
-    requires has_points { IsTrue (has_points study.now.method) }
-    ensures plans_study { IfOk result (λ planning. planning ≡ record { study = study.now; before = 0; count = 0 }) }
+    requires sound { IsSound study.now }
+    ensures plans_study { IfOk result (λ planning. IsNew study.now planning) }
 {
     Ok(Planning {
         study: study.copy(alloc)?,
         before: 0,
         count: 0,
+        search: search_of(alloc, study)?,
     })
 }
 
+/// The search of a compass search, which begins.
+fn search_of(alloc: Global, study: &Study) -> Result<Option<Search>, AllocError>
+    requires sound { IsSound study.now }
+    ensures { IfOk result (λ search. BeginsBy study.now search study.now.method) }
+{
+    match &study.method {
+        Method::Compass {
+            delta,
+            threshold,
+            iterations,
+            evaluations,
+        } => {
+            let terms = Terms {
+                delta: *delta,
+                threshold: *threshold,
+                iterations: *iterations,
+                evaluations: *evaluations,
+            };
+            Ok(Some(Search::begin(alloc, study, terms)?))
+        }
+        _ => Ok(None),
+    }
+}
+
 impl Planner for Planning {
-    ghost use Rattle.std.specs.Prelude.{◌≡◌, length};
-    ghost use Rattle.dk_types.specs.Planned.{points_from};
+    ghost use Rattle.dk_method.specs.Plans.{batch_of, WasGiven};
 
     ghost study = { λ p. p.study };
 
-    ghost was_given = { λ p rows. length rows ≡ p.before };
+    ghost was_given = { λ p rows. WasGiven p rows };
 
     ghost before = { λ p. p.before };
 
-    ghost batch = { λ p. points_from p.study p.before p.count };
+    ghost batch = { λ p. batch_of p };
 
     fn next<R: Rows>(&mut self, rows: &R) -> Plan {
+        let before = self.before;
         self.before = rows.count();
+        if let Some(search) = &mut self.search {
+            return search.next(&self.study, before, rows);
+        }
         if self.before < self.study.limit {
             self.count = self.study.limit - self.before;
             Plan::Batch {
@@ -75,7 +107,13 @@ impl Planner for Planning {
     }
 
     fn point(&self, row: u32, out: &mut [Dec]) {
-        put_point(&self.study, row - 1, out);
+        match &self.search {
+            Some(search) => {
+                let index = row - self.before - 1;
+                out.copy_from_slice(search.polls.row(RowId { index }));
+            }
+            None => put_point(&self.study, row - 1, out),
+        }
     }
 }
 
