@@ -1,5 +1,5 @@
 -- A study that a child's answers decide is decided as it is over the child alone.
-use Rattle.std.proofs.Common.{◌≡◌, ℕ, ◌<◌, Bool, true, false, List, [], ◌∷◌, ◌++◌, length, map, Option, Some, None, ◌==◌, ◌&&◌, cond, refl, sym, ap, ◌∙◌, arith, ℤ, nat_lt}
+use Rattle.std.proofs.Common.{◌≡◌, ℕ, Bool, true, false, List, [], ◌∷◌, ◌++◌, map, Option, Some, None, ◌==◌, ◌&&◌, cond, refl, sym, ap, ◌∙◌, arith, ℤ}
 use Rattle.std.specs.List.{All}
 use Rattle.std.specs.Option.{option_or}
 use Rattle.std.specs.Ordering.{is_eq, int_cmp}
@@ -19,7 +19,6 @@ use Rattle.dk_types.specs.declared.entry.Entry.{Entry}
 use Rattle.dk_types.specs.declared.entry.Said.{Said}
 use Rattle.dk_types.specs.declared.rows.Row.{Row}
 use Rattle.dk_types.specs.Best.{same_point}
-use Rattle.dk_types.specs.Points.{point, size, units_at}
 use Rattle.dk_types.specs.Planned.{next, At}
 use Rattle.dk_types.specs.Sound.{IsSound}
 use Rattle.dk_types.specs.Entries.{said}
@@ -27,12 +26,11 @@ use Rattle.dk_types.specs.Answers.{Answer, Value, Dead}
 use Rattle.dk_types.specs.Laws.{answer_in}
 use Rattle.dk_types.specs.EntryLaws.{AreAnswersOf, is_answered}
 use Rattle.dk_types.specs.Solo.{Alone, finished, aborted, goes_on, outcomes_of, Child, Ended, Open, Seq, Solo, with_row}
-use Rattle.dk_types.proofs.Once.{next_at, next_over}
-use Rattle.dk_types.proofs.Alone.{rows_are_points}
+use Rattle.dk_types.proofs.Alone.{rows_in_order}
 use Rattle.dk_types.proofs.Attempts.{said_append, said_one}
 use Rattle.dk_types.proofs.Growth.{answer_stays}
 use Rattle.dk_method.specs.Laws.{IsSmall}
-use Rattle.dk_method.proofs.PointLaws.{quantities_are_small}
+use Rattle.dk_method.proofs.NextSmall.{IsOfUnits, each_next_is_small}
 use Rattle.dk_evaluate.specs.Evaluated.{IsAnswerOf, AreWaitedFor}
 
 -- Points of one unit that are one have the same decimals
@@ -61,32 +59,29 @@ points_same e (k ∷ ks) (l ∷ ls) unit a b h =
     let first : x ≡ y = one_for_a_value x y (units_canonical e k unit (All-head IsSmall k ks a)) (units_canonical e l unit (All-head IsSmall l ls b)) (equal_from (whole_value x) (whole_value y) t.0) in
     ap (λ (d : Decimal). d ∷ map (in_units e) ks) first ∙ ap (λ ds. y ∷ ds) (points_same e ks ls unit (All-tail IsSmall k ks a) (All-tail IsSmall l ls b) t.1)
 
--- one of the study's points
+-- a point that comes next behind some rows
 abbrev IsPlanned : Study → List Decimal → Type 0
-IsPlanned study p = (i : ℕ) × (i < size study) × (p ≡ point study i)
+IsPlanned study p = (rows : List Row) × (next study rows ≡ At p)
 
 planned_same : (study : Study) (p q : List Decimal) → IsSound study → IsPlanned study p → IsPlanned study q → same_point p q ≡ true → p ≡ q
 planned_same study p q sound a b h =
-    let is : same_point (point study a.0) (point study b.0) ≡ true = ap (λ (x : List Decimal). same_point x (point study b.0)) (sym a.2) ∙ ap (same_point p) (sym b.2) ∙ h in
-    a.2 ∙ points_same study.unit.exponent (units_at study a.0) (units_at study b.0) sound.unit (quantities_are_small study a.0 sound a.1) (quantities_are_small study b.0 sound b.1) is ∙ sym b.2
-
-planned_next : (study : Study) (rows : List Row) (p : List Decimal) → next study rows ≡ At p → IsPlanned study p
-planned_next study rows p h = at (nat_lt (length rows) (size study)) refl
-  where
-    at : (b : Bool) → nat_lt (length rows) (size study) ≡ b → IsPlanned study p
-    at true e = (length rows, grind (arith, common_steps), let k = next_at study rows e in cc)
-    at false e = absurd (let k = next_over study rows e in cc)
+    let x : IsOfUnits study p = each_next_is_small study a.0 p sound a.1 in
+    let y : IsOfUnits study q = each_next_is_small study b.0 q sound b.1 in
+    let e : ℤ = study.unit.exponent in
+    let is : same_point (map (in_units e) x.units) (map (in_units e) y.units) ≡ true
+    = ap (λ (l : List Decimal). same_point l (map (in_units e) y.units)) (sym x.is) ∙ ap (same_point p) (sym y.is) ∙ h in
+    x.is ∙ points_same e x.units y.units sound.unit x.small y.small is ∙ sym y.is
 
 abbrev ArePlanned : Study → List Entry → Type 0
 ArePlanned study [] = Unit {0}
 ArePlanned study (e ∷ entries) = IsPlanned study e.point × ArePlanned study entries
 
--- what a study waits for is an attempt of one of its points
+-- what a study waits for is an attempt of a point that comes next
 waited_planned : (study : Study) (before added : List Entry) → AreWaitedFor study before added → ArePlanned study added
 waited_planned study before [] waited = tt
 waited_planned study before (e ∷ added) waited =
-    let is = (rows_are_points study (said before) waited.0.0 (Open e.point e.attempt) waited.0.1).stands in
-    ((length waited.0.0, is.0, is.2), waited_planned study (before ++ e ∷ []) added waited.1)
+    let is = (rows_in_order study (said before) waited.0.0 (Open e.point e.attempt) waited.0.1).stands in
+    ((waited.0.0, is.0), waited_planned study (before ++ e ∷ []) added waited.1)
 
 -- What entries say of the study's points
 
@@ -135,9 +130,9 @@ settled study child entries are p a planned h e =
 alone_child : (study : Study) (child : Child) (entries : List Entry) → AnswersPlanned study child entries → (rows last : List Row) (ending : Ending) → Alone study (said entries) rows last (Ended ending) →
     Alone study (outcomes_of child) rows last (Ended ending)
 alone_child study child entries are _ _ _ (finished rows why e) = finished rows why e
-alone_child study child entries are _ _ _ (aborted rows p attempts e a) = aborted rows p attempts e (settled study child entries are p (Dead attempts) (planned_next study rows p e) refl a)
+alone_child study child entries are _ _ _ (aborted rows p attempts e a) = aborted rows p attempts e (settled study child entries are p (Dead attempts) (rows, e) refl a)
 alone_child study child entries are _ _ ending (goes_on rows p v last verdict e a s) =
-    goes_on rows p v last (Ended ending) e (settled study child entries are p (Value v) (planned_next study rows p e) refl a) (alone_child study child entries are (with_row rows p v) last ending s)
+    goes_on rows p v last (Ended ending) e (settled study child entries are p (Value v) (rows, e) refl a) (alone_child study child entries are (with_row rows p v) last ending s)
 
 -- where the entries of before are the child's answers, and so are those that the study waited for
 pub decided_as_child : (study : Study) (child : Child) (before added : List Entry) (rows : List Row) (ending : Ending) → IsSound study → AreAnswersOf child before → All (IsAnswerOf child) added →

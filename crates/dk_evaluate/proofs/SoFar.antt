@@ -19,7 +19,7 @@ use Rattle.dk_book.proofs.Read.{not_there}
 use Rattle.dk_evaluate.specs.Pools.{RowsState}
 use Rattle.dk_evaluate.specs.Evaluated.{points_of, row_with, number_of, first_row_of, TakesNumber, SettlesBook}
 use Rattle.dk_evaluate.specs.Turns.{IsSoFar}
-use Rattle.dk_report.specs.Widths.{HasWidths, HaveWidths}
+use Rattle.dk_types.specs.Widths.{HasWidths, HaveWidths}
 use Rattle.dk_evaluate.specs.declared.evaluation.Table.{Table}
 use Rattle.dk_book.proofs.Lists.{item_kept, place_kept, behind_none}
 use Rattle.dk_evaluate.proofs.Pooled.{long_set}

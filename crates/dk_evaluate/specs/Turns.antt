@@ -7,9 +7,10 @@ use Rattle.dk_types.specs.declared.rows.Row.{Row}
 use Rattle.dk_types.specs.Cards.{place_of}
 use Rattle.dk_types.specs.Solo.{with_row}
 use Rattle.dk_outside.specs.Benches.{Contents, Leaves}
-use Rattle.dk_report.specs.Widths.{HaveWidths}
+use Rattle.dk_types.specs.Widths.{HaveWidths}
 use Rattle.dk_book.specs.Books.{BookState}
 use Rattle.dk_journal.specs.Journals.{JournalState}
+use Rattle.dk_method.specs.Plans.{IsNew}
 use Rattle.dk_evaluate.specs.Evaluated.{Runs, Decides, Halts, Loses, row_with, first_row_of, points_of}
 use Rattle.dk_evaluate.specs.declared.evaluation.Table.{Table}
 use Rattle.dk_evaluate.specs.declared.evaluation.Prepared.{Prepared}
@@ -38,7 +39,7 @@ pub record IsSoFar (study : Study) (book : BookState) (table : Table) : Type 0 w
 pub record IsPrepared (study : Study) (book : BookState) (prepared : Prepared) : Type 0 where
   pub so_far : IsSoFar study book prepared.table
   pub none : prepared.table.rows.rows ≡ []
-  pub planned : prepared.planning ≡ record { study = study; before = 0; count = 0 }
+  pub planned : IsNew study prepared.planning
 
 -- the point got its row
 pub record GetsRow (p : List Decimal) (old new : List Row) : Type 0 where

@@ -1,13 +1,12 @@
 // The evaluation of a study, one point after another, over a book and the journal that keeps its attempts.
-ghost use Rattle.std.specs.Prelude.{◌≡◌, ◌+◌, ◌<◌, ◌≤◌, List, [], length, IfOk, Option, None, Some, true};
+ghost use Rattle.std.specs.Prelude.{◌≡◌, ◌+◌, ◌<◌, ◌≤◌, List, [], length, IfOk, Option, None, Some};
 ghost use Rattle.dk_outside.specs.Benches.{Contents};
 ghost use Rattle.dk_types.specs.declared.study.Driver.TheVariants.{Direct};
 ghost use Rattle.dk_params.specs.Params.{task_of};
 ghost use Rattle.dk_types.specs.declared.entry.Entry.{Entry};
-ghost use Rattle.dk_types.specs.Planned.{rest, next, At, AnswersBatch};
+ghost use Rattle.dk_types.specs.Planned.{rest, next, At, AnswersBatch, AnswersLast};
 ghost use Rattle.dk_types.specs.Sound.{IsSound};
-ghost use Rattle.dk_types.specs.Points.{has_points};
-ghost use Rattle.dk_report.specs.Widths.{HaveWidths};
+ghost use Rattle.dk_types.specs.Widths.{HaveWidths};
 ghost use Rattle.dk_journal.specs.Journals.{JournalState};
 ghost use Rattle.dk_evaluate.specs.Keeping.{Keeps};
 ghost use Rattle.dk_evaluate.specs.Evaluated.{IsOpen, Runs, TakesNumber};
@@ -74,7 +73,6 @@ pub fn prepare<K: Disk>(
     ledger: &Ledger<K>,
 ) -> Result<Prepared, AllocError>
     requires sound { IsSound study.now }
-    requires points { has_points study.now.method ≡ true }
     requires variables { ledger.now.book.variables ≡ length study.now.variables.labels }
     requires responses { ledger.now.book.responses ≡ length study.now.responses.labels }
     requires spare { study.now.limit ≤ ledger.now.book.spare }
@@ -111,7 +109,6 @@ pub fn evaluate<K: Disk, B: Bench>(
     prepared: Prepared,
 ) -> Ran<K>
     requires sound { IsSound study.now }
-    requires points { has_points study.now.method ≡ true }
     requires task { station.old.task ≡ task_of study.now }
     requires opened { IsOpen study.now ledger.book ledger.journal }
     requires prepared { IsPrepared study.now ledger.book prepared }
@@ -141,16 +138,16 @@ pub fn evaluate<K: Disk, B: Bench>(
 }
 
 /// Evaluates one batch of points after another, up to the end, and adds their rows.
-fn evaluate_batches<K: Disk, B: Bench>(
+fn evaluate_batches<K: Disk, B: Bench, P: Planner>(
     station: &mut Station<B>,
-    planning: &mut Planning,
+    planning: &mut P,
     study: &Study,
     run: &mut Evaluation<K>,
 ) -> Verdict
     requires sound { IsSound study.now }
-    requires points { has_points study.now.method ≡ true }
     requires task { station.old.task ≡ task_of study.now }
-    requires planned { planning.old ≡ record { study = study.now; before = 0; count = 0 } }
+    requires study { P.study planning.old ≡ study.now }
+    requires new { AnswersLast (P.was_given planning.old) (P.batch planning.old) [] }
     requires opened { IsOpen study.now run.old.ledger.book run.old.ledger.journal }
     requires so_far { IsSoFar study.now run.old.ledger.book run.old.table }
     requires none { run.old.table.rows.rows ≡ [] }

@@ -4,15 +4,17 @@ use Rattle.std.proofs.Math.Nat.{le_trans}
 use Rattle.std.proofs.lemmas.Grind.{common_steps}
 use Rattle.std.proofs.lemmas.List.{with_items_is}
 use Rattle.dk_types.specs.Planned.{rest}
-use Rattle.dk_evaluate.proofs.Evaluations.{IsAlong, along_more, along_count, along_next, rest_long, batch_point, left_point}
+use Rattle.dk_types.proofs.Alone.{next_within}
+use Rattle.dk_evaluate.proofs.Evaluations.{IsAlong, along_more, along_next, batch_point, batch_room}
 use Rattle.dk_evaluate.proofs.Trying.{its_fault_later}
 use Rattle.dk_evaluate.proofs.evaluation.evaluate_batch.Goals as goal
 
 pub overflow_add-row-end : goal.overflow_add-row-end
 overflow_add-row-end g c =
-    let long = rest_long c.args.study.now c.args.run.now.table.rows.rows in
     let most = c.requires.sound.limit_is in
     let few = c.requires.sound.few_rows in
+    let places = c.requires.so_far.places in
+    let room = batch_room c.args.study.now c.args.run.now.table.rows.rows (omega arith) in
     let from = c.requires.first in
     let all = c.requires.count in
     grind (arith, common_steps)
@@ -20,14 +22,12 @@ overflow_add-row-end g c =
 pub evaluate_point-requires-clause-left : goal.evaluate_point-requires-clause-left
 evaluate_point-requires-clause-left g c =
     let old = c.args.run.now.table.rows.rows in
-    let long = rest_long c.args.study.now old in
     let most = c.requires.sound.limit_is in
     let at : slice_get (rest c.args.study.now old) (c.loop-row.row - c.args.first) ≡ Some c.point.new.out
     = batch_point c.args.study.now old (g.P.Planner.batch c.args.planner.now) (g.P.Planner.before c.args.planner.now) c.args.first c.loop-row.row c.point.new.out c.requires.batch c.requires.before c.requires.first c.point.ensures in
-    let is = left_point c.args.study.now old (c.loop-row.row - c.args.first) c.point.new.out at in
-    let within = is.within in
-    let count = along_count c.args.study.now old c.loop-row.run.table.rows.rows (c.loop-row.row - c.args.first) (omega arith) c.loop-row.invariant.along in
-    grind (arith, common_steps)
+    let within = next_within c.args.study.now c.requires.sound c.loop-row.run.table.rows.rows c.point.new.out
+    (along_next c.args.study.now old c.loop-row.run.table.rows.rows (c.loop-row.row - c.args.first) c.point.new.out c.point.new.out refl at c.loop-row.invariant.along) in
+    omega arith
 
 pub returns-in-Some-clause-ends : goal.returns-in-Some-clause-ends
 returns-in-Some-clause-ends g c = λ start bench before was.

@@ -9,7 +9,7 @@ use Rattle.dk_evaluate.proofs.evaluation.evaluate_batches.Goals as goal
 pub returns-in-Finished-clause-ends : goal.returns-in-Finished-clause-ends
 returns-in-Finished-clause-ends g c = λ start bench before was.
     let rows = c.loop-why.run.table.rows.rows in
-    let planned : plan c.args.study.now rows ≡ c.next.result = sym (c.next.ensures.plan ∙ ap (λ (s : Study). plan s rows) c.loop-why.invariant.under_way.study_is) in
+    let planned : plan c.args.study.now rows ≡ c.next.result = sym (c.next.ensures.plan ∙ ap (λ (s : Study). plan s rows) c.loop-why.invariant.study_is) in
     runs_over g.B.Bench.leaves c.args.study.now start bench before c.loop-why.run.ledger.book c.loop-why.run.ledger.journal (g.B.Bench.held c.loop-why.station.bench) rows c.in-Finished.why (c.loop-why.invariant.runs start bench before was)
     (end_is c.args.study.now rows c.in-Finished.why (planned ∙ c.in-Finished.is))
 
@@ -22,5 +22,6 @@ returns-in-Some-clause-cause g c = λ stop is.
 pub loop-why-smaller : goal.loop-why-smaller
 loop-why-smaller g c =
     let rows = c.loop-why.run.table.rows.rows in
-    let planned : plan c.args.study.now rows ≡ c.next.result = sym (c.next.ensures.plan ∙ ap (λ (s : Study). plan s rows) c.loop-why.invariant.under_way.study_is) in
-    fewer_left c.args.study.now rows c.evaluate_batch.new.run.table.rows.rows (batch_is c.args.study.now rows c.in-Batch.first c.in-Batch.count (planned ∙ c.in-Batch.is)).left (c.in_default.ensures.answers refl)
+    let planned : plan c.args.study.now rows ≡ c.next.result = sym (c.next.ensures.plan ∙ ap (λ (s : Study). plan s rows) c.loop-why.invariant.study_is) in
+    let batch = batch_is c.args.study.now rows c.in-Batch.first c.in-Batch.count (planned ∙ c.in-Batch.is) in
+    fewer_left c.args.study.now rows c.evaluate_batch.new.run.table.rows.rows batch.point c.requires.sound batch.next_is (c.in_default.ensures.answers refl)

@@ -2,16 +2,17 @@ use Rattle.dk_outside.specs.Benches.{Contents}
 use Rattle.dk_types.specs.declared.study.Driver.TheVariants.{Direct}
 use Rattle.std.proofs.Common.{◌≡◌, ◌≤◌, Option, ◌-◌, length, List}
 use Rattle.dk_types.specs.declared.entry.Entry.{Entry}
-use Rattle.dk_types.specs.Points.{size}
+use Rattle.dk_types.specs.Limits.{limit}
+use Rattle.dk_types.specs.Planned.{AnswersLast}
 use Rattle.dk_journal.specs.Journals.{JournalState}
 use Rattle.dk_evaluate.specs.Evaluated.{IsOpen, Runs}
 use Rattle.dk_evaluate.specs.Turns.{IsSoFar}
-use Rattle.dk_evaluate.proofs.Evaluations.{IsUnderWay}
 use Rattle.dk_evaluate.proofs.evaluation.evaluate_batches.Given as goal
 
 abbrev pub invariant-loop-why : goal.invariant-loop-why
 invariant-loop-why g l = record {
-  under_way : IsUnderWay l.study l.planning l.run.table.rows.rows;
+  study_is : g.P.Planner.study l.planning ≡ l.study;
+  answered : AnswersLast (g.P.Planner.was_given l.planning) (g.P.Planner.batch l.planning) l.run.table.rows.rows;
   opened : IsOpen l.study l.run.ledger.book l.run.ledger.journal;
   so_far : IsSoFar l.study l.run.ledger.book l.run.table;
   runs : (start : JournalState) (bench : Option Contents) (before : List Entry) → Runs g.B.Bench.leaves l.study start bench before l.initial.run.ledger.book l.initial.run.ledger.journal (g.B.Bench.held l.initial.station.bench) l.initial.run.table.rows.rows →
@@ -24,4 +25,4 @@ invariant-loop-why g l = record {
 }
 
 abbrev pub decreases-loop-why : goal.decreases-loop-why
-decreases-loop-why g l = size l.study - length l.run.table.rows.rows
+decreases-loop-why g l = limit l.study - length l.run.table.rows.rows
