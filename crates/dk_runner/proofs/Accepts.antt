@@ -13,13 +13,11 @@ use Rattle.dk_reader.specs.Study.{study_of}
 use Rattle.dk_reader.proofs.TableEntries.{text_named}
 use Rattle.dk_reader.proofs.Sound.{study_is_sound}
 use Rattle.dk_reader.specs.declared.fault.StudyFault.{StudyFault}
-use Rattle.dk_reader.specs.declared.fault.StudyKind.TheVariants.{TooLong, Unsupported}
+use Rattle.dk_reader.specs.declared.fault.StudyKind.TheVariants.{TooLong}
 use Rattle.dk_reader.specs.Reading.{Reads, HasFault, Says, EachTextSays}
 use Rattle.dk_reader.proofs.Says.{each_says}
-use Rattle.dk_runner.specs.Accepted.{Accepts, Refused, too_long, faulty, unbuilt, serves, at_beginning}
+use Rattle.dk_runner.specs.Accepted.{Accepts, Refused, too_long, faulty, at_beginning}
 use Rattle.dk_runner.specs.Headline.{WithoutTable, WithoutDriver}
-use Rattle.dk_words.specs.declared.purpose.Purpose.{Purpose}
-use Rattle.dk_words.specs.declared.purpose.Purpose.TheVariants.{Run}
 
 -- what the reader's definitions say of a text
 abbrev Outcome : Type 0
@@ -46,60 +44,45 @@ one_fault text a b p q = let e : of_fault a ≡ of_fault b = one_outcome text (E
 one_of_both : (text : List ℕ) (study : Study) (fault : StudyFault) → Reads text study → HasFault text fault → ⊥
 one_of_both text study fault p q = let e : of_study study ≡ of_fault fault = one_outcome text (Ok study) (Err fault) p q in absurd (cc)
 
-module _ (purpose : Purpose) where
-  -- no study serves and doesn't
-  served_or_not : (study other : Study) → study ≡ other → serves purpose study ≡ true → serves purpose other ≡ false → ⊥
-  served_or_not study other same is is_not = let e : true ≡ false = sym is ∙ ap (serves purpose) same ∙ is_not in absurd (cc)
+-- a text gives at most one study
+pub one_accepted : (text : List ℕ) (a b : Study) → Accepts text a → Accepts text b → a ≡ b
+one_accepted text a b p q = one_study text a b p.reads q.reads
 
-  -- a text gives at most one study
-  pub one_accepted : (text : List ℕ) (a b : Study) → Accepts purpose text a → Accepts purpose text b → a ≡ b
-  one_accepted text a b p q = one_study text a b p.reads q.reads
+-- and isn't refused then
+pub not_both : (text : List ℕ) (study : Study) (fault : StudyFault) → Accepts text study → Refused text fault → ⊥
+not_both text study _ a (too_long long) = let short = a.short in omega arith
+not_both text study _ a (faulty fault short has) = one_of_both text study fault a.reads has
 
-  -- and isn't refused then
-  pub not_both : (text : List ℕ) (study : Study) (fault : StudyFault) → Accepts purpose text study → Refused purpose text fault → ⊥
-  not_both text study _ a (too_long long) = let short = a.short in omega arith
-  not_both text study _ a (faulty fault short has) = one_of_both text study fault a.reads has
-  not_both text study _ a (unbuilt other short reads is_not) = served_or_not study other (one_study text study other a.reads reads) a.served is_not
+-- a text is refused for at most one fault
+pub one_refusal : (text : List ℕ) (a b : StudyFault) → Refused text a → Refused text b → a ≡ b
+one_refusal text _ _ (too_long long) (too_long again) = refl
+one_refusal text _ _ (too_long long) (faulty fault short has) = absurd (omega arith)
+one_refusal text _ _ (faulty fault short has) (too_long long) = absurd (omega arith)
+one_refusal text _ _ (faulty fault short has) (faulty other again too) = one_fault text fault other has too
 
-  -- a text is refused for at most one fault
-  pub one_refusal : (text : List ℕ) (a b : StudyFault) → Refused purpose text a → Refused purpose text b → a ≡ b
-  one_refusal text _ _ (too_long long) (too_long again) = refl
-  one_refusal text _ _ (too_long long) (faulty fault short has) = absurd (omega arith)
-  one_refusal text _ _ (too_long long) (unbuilt study short reads is_not) = absurd (omega arith)
-  one_refusal text _ _ (faulty fault short has) (too_long long) = absurd (omega arith)
-  one_refusal text _ _ (faulty fault short has) (faulty other again too) = one_fault text fault other has too
-  one_refusal text _ _ (faulty fault short has) (unbuilt study again reads is_not) = absurd (one_of_both text study fault reads has)
-  one_refusal text _ _ (unbuilt study short reads is_not) (too_long long) = absurd (omega arith)
-  one_refusal text _ _ (unbuilt study short reads is_not) (faulty fault again has) = absurd (one_of_both text study fault reads has)
-  one_refusal text _ _ (unbuilt study short reads is_not) (unbuilt other again too neither) = refl
+-- a study, or a fault
+abbrev pub Decided : List ℕ → Type 0
+Decided text = ((study : Study) × Accepts text study) ⊎ ((fault : StudyFault) × Refused text fault)
 
-  -- a study, or a fault
-  abbrev pub Decided : List ℕ → Type 0
-  Decided text = ((study : Study) × Accepts purpose text study) ⊎ ((fault : StudyFault) × Refused purpose text fault)
+-- each text gives a study or is refused
+pub each_decided : (text : List ℕ) → Decided text
+each_decided text = by_length (nat_le (length text) 1048576) refl
+  where
+    by_outcome : length text ≤ 1048576 → (outcome : Outcome) → Says text outcome → Decided text
+    by_outcome short (Ok study) reads = inl (study, record { short = short; reads = reads })
+    by_outcome short (Err fault) has = inr (fault, faulty fault short has)
 
-  -- each text gives a study or is refused
-  pub each_decided : (text : List ℕ) → Decided text
-  each_decided text = by_length (nat_le (length text) 1048576) refl
-    where
-      of_read : length text ≤ 1048576 → (study : Study) → Reads text study → (b : Bool) → serves purpose study ≡ b → Decided text
-      of_read short study reads true e = inl (study, record { short = short; reads = reads; served = e })
-      of_read short study reads false e = inr (at_beginning Unsupported, unbuilt study short reads e)
+    by_length : (b : Bool) → nat_le (length text) 1048576 ≡ b → Decided text
+    by_length true e = by_outcome (grind (arith, common_steps)) (law text).0 (law text).1
+    by_length false e = inr (at_beginning TooLong, too_long (grind (arith, common_steps)))
 
-      by_outcome : length text ≤ 1048576 → (outcome : Outcome) → Says text outcome → Decided text
-      by_outcome short (Ok study) reads = of_read short study reads (serves purpose study) refl
-      by_outcome short (Err fault) has = inr (fault, faulty fault short has)
-
-      by_length : (b : Bool) → nat_le (length text) 1048576 ≡ b → Decided text
-      by_length true e = by_outcome (grind (arith, common_steps)) (law text).0 (law text).1
-      by_length false e = inr (at_beginning TooLong, too_long (grind (arith, common_steps)))
-
-  -- a text that is too long is refused so, where the source tells
-  pub refuses_long : (left : Option (List ℕ)) → IfSome left (λ bytes. 1048576 < length bytes) → IfSome left (λ text. Refused purpose text (at_beginning TooLong))
-  refuses_long None h = tt
-  refuses_long (Some text) h = too_long h
+-- a text that is too long is refused so, where the source tells
+pub refuses_long : (left : Option (List ℕ)) → IfSome left (λ bytes. 1048576 < length bytes) → IfSome left (λ text. Refused text (at_beginning TooLong))
+refuses_long None h = tt
+refuses_long (Some text) h = too_long h
 
 -- a table that stays as it is where its study asks for none stays so where the text says such a study
-pub without_table : {untouched : Type 0} (left : Option (List ℕ)) (study : Study) → IfSome left (λ text. Accepts Run text study) → (study.table ≡ None → untouched) →
+pub without_table : {untouched : Type 0} (left : Option (List ℕ)) (study : Study) → IfSome left (λ text. Accepts text study) → (study.table ≡ None → untouched) →
     IfSome left (λ text. WithoutTable text untouched)
 without_table None study accepts leaves = tt
 without_table (Some text) study accepts leaves = λ other reads none.
@@ -111,7 +94,7 @@ untouched_table None is = tt
 untouched_table (Some text) is = λ study reads none. is
 
 -- benches that stay as they are without a driver stay so where the text says such a study
-pub without_driver : {untouched : Type 0} (left : Option (List ℕ)) (study : Study) → IfSome left (λ text. Accepts Run text study) → (study.interface.driver ≡ Direct → untouched) →
+pub without_driver : {untouched : Type 0} (left : Option (List ℕ)) (study : Study) → IfSome left (λ text. Accepts text study) → (study.interface.driver ≡ Direct → untouched) →
     IfSome left (λ text. WithoutDriver text untouched)
 without_driver None study accepts leaves = tt
 without_driver (Some text) study accepts leaves = λ other takes direct.

@@ -16,22 +16,22 @@ use Rattle.dk_runner.proofs.Texts.{told, always, not_misused}
 use Rattle.dk_runner.proofs.Told.{accepted, refused_so}
 
 -- a text that is refused isn't a study's
-refused_only : (text : List ℕ) (fault : StudyFault) (status : Status) → Refused Check text fault → EndsAccepted text status
-refused_only text fault status refused = λ study accepts. absurd (not_both Check text study fault accepts refused)
+refused_only : (text : List ℕ) (fault : StudyFault) (status : Status) → Refused text fault → EndsAccepted text status
+refused_only text fault status refused = λ study accepts. absurd (not_both text study fault accepts refused)
 
 module _ (s : Stage) where
-  pub refusal_told : (status : Status) → ChecksSo s status → IsFor Check s.words → (Rose s.source_before s.source_now → ⊥) → IfSome s.left (λ text. TellsRefusal Check text status)
-  refusal_told Finished h is source = told s.left (λ text t. accepted Check text t.study Finished t.accepts) h.1
+  pub refusal_told : (status : Status) → ChecksSo s status → IsFor Check s.words → (Rose s.source_before s.source_now → ⊥) → IfSome s.left (λ text. TellsRefusal text status)
+  refusal_told Finished h is source = told s.left (λ text t. accepted text t.study Finished t.accepts) h.1
   refusal_told Aborted h is source = absurd h.0
   refusal_told (Usage at) h is source = not_misused Check s.words at is h.0
-  refusal_told (StudyRefused fault) h is source = told s.left (λ text refused. refused_so Check text fault refused) h.0.1
+  refusal_told (StudyRefused fault) h is source = told s.left (λ text refused. refused_so text fault refused) h.0.1
   refusal_told SourceFault h is source = absurd (source h.0.1)
   refusal_told (RestartRefused fault) h is source = absurd h.0
   refusal_told DiskFault h is source = absurd h.0
   refusal_told (RestartFull size) h is source = absurd h.0
   refusal_told (BenchFault fault) h is source = absurd h.0
   refusal_told (SinkFault Table) h is source = absurd h.0
-  refusal_told (SinkFault Out) h is source = told s.left (λ text t. accepted Check text t.study (SinkFault Out) t.accepts) h.2
+  refusal_told (SinkFault Out) h is source = told s.left (λ text t. accepted text t.study (SinkFault Out) t.accepts) h.2
   refusal_told NoMemory h is source = always s.left (λ text fault refused. inr refl)
 
   pub accepted_told : (status : Status) → ChecksSo s status → IsFor Check s.words → (Rose s.source_before s.source_now → ⊥) → (Rose s.out_before s.out_now → ⊥) →

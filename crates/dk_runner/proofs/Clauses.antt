@@ -22,7 +22,7 @@ use Rattle.dk_runner.specs.Accepted.{Accepts}
 use Rattle.dk_outside.specs.Benches.{Leaves}
 use Rattle.dk_runner.specs.Outsides.{Outside}
 use Rattle.dk_runner.specs.Started.{is_kept, is_torn, is_refused, is_lost}
-use Rattle.dk_runner.specs.Restarts.{Stood, IsDecided, IsRefusedFile, IsDiskFault, IsFull, IsLost, IsOutOfMemory, LeavesAlone, LeavesFile, KeepsAll, HasRoom, most_bytes}
+use Rattle.dk_runner.specs.Restarts.{Stood, IsDecided, IsRefusedFile, IsDiskFault, IsFull, IsOutOfMemory, LeavesAlone, LeavesFile, KeepsAll, HasRoom, most_bytes}
 use Rattle.dk_runner.specs.Headline.{Written, BreaksTable, BreaksSummary, StopsOver, TellsOver, CanRun, EndsDecided, InMode}
 use Rattle.dk_runner.specs.Endings.{Scene, EndsSo}
 use Rattle.dk_runner.specs.Lines.{is_decided}
@@ -86,8 +86,8 @@ module _ (leaves : Leaves) (s : Scene) (o : Outside) (untouched uncalled : Type 
       let over = subst (OpensOverTold (shape_of study) o.old) (sym (same file).0) (uncalled_over (shape_of study) o.old) in
       inl (record { handed = book; over = over; sessions = λ before stood. alone_in_sessions study o.old o.new before over stood; later = (same file).1; rests = (same file).2 })
 
-  of_decided : (text : List ℕ) (study other : Study) (P : Study → Type 0) → Accepts Run text study → Accepts Run text other → (P study → LeavesFile leaves study o) → P study → LeavesFile leaves other o
-  of_decided text study other P a b file h = subst (λ (t : Study). LeavesFile leaves t o) (one_accepted Run text study other a b) (file h)
+  of_decided : (text : List ℕ) (study other : Study) (P : Study → Type 0) → Accepts text study → Accepts text other → (P study → LeavesFile leaves study o) → P study → LeavesFile leaves other o
+  of_decided text study other P a b file h = subst (λ (t : Study). LeavesFile leaves t o) (one_accepted text study other a b) (file h)
 
   by_written : (study : Study) → ((rows : _) × (ending : _) × IsDecided leaves study o rows ending) → LeavesFile leaves study o
   by_written study d = inr (d.2.book, d.2.before, d.2.added, is_kept, d.2.continues)
@@ -98,7 +98,7 @@ module _ (leaves : Leaves) (s : Scene) (o : Outside) (untouched uncalled : Type 
   by_memory : (study : Study) → IsOutOfMemory leaves study o → LeavesFile leaves study o
   by_memory study m = elim m.left [ inl alone ↦ inl alone | inr b ↦ inr (b.0, b.1, [], is_kept, b.2) ]
 
-  file_text : (status : Status) → EndsSo leaves s o untouched uncalled status → IfSome s.left (λ text. (study : Study) → Accepts Run text study → LeavesFile leaves study o)
+  file_text : (status : Status) → EndsSo leaves s o untouched uncalled status → IfSome s.left (λ text. (study : Study) → Accepts text study → LeavesFile leaves study o)
   file_text Finished h = told s.left (λ text w other b. of_decided text w.study other (λ t. (rows : _) × (ending : _) × IsDecided leaves t o rows ending) w.evaluates.accepts b (by_written w.study) (w.rows, w.ending, w.evaluates.is_decided)) h.1
   file_text Aborted h = told s.left (λ text w other b. of_decided text w.study other (λ t. (rows : _) × (ending : _) × IsDecided leaves t o rows ending) w.evaluates.accepts b (by_written w.study) (w.rows, w.ending, w.evaluates.is_decided)) h.1
   file_text (SinkFault Table) h = told s.left (λ text w other b. of_decided text w.study other (λ t. (rows : _) × (ending : _) × IsDecided leaves t o rows ending) w.evaluates.accepts b (by_written w.study) (w.rows, w.ending, w.evaluates.is_decided)) h.2
@@ -115,7 +115,7 @@ module _ (leaves : Leaves) (s : Scene) (o : Outside) (untouched uncalled : Type 
     | inr late ↦ told s.left (λ text t other b. of_decided text t.study other (λ x. IsOutOfMemory leaves x o) t.accepts b (by_memory t.study) t.is) late.3
   ]
 
-  pub file_of : (status : Status) → EndsSo leaves s o untouched uncalled status → IfSome s.left (λ text. (study : Study) → Accepts Run text study → LeavesFile leaves study o)
+  pub file_of : (status : Status) → EndsSo leaves s o untouched uncalled status → IfSome s.left (λ text. (study : Study) → Accepts text study → LeavesFile leaves study o)
   file_of = file_text
 
 -- Where nothing fails and there is room, all that was made is kept
@@ -129,8 +129,8 @@ module _ (leaves : Leaves) (s : Scene) (o : Outside) (untouched uncalled : Type 
       let over = subst (OpensOverTold (shape_of study) o.old) (sym (same file).0) (uncalled_over (shape_of study) o.old) in
       inl (record { handed = book; over = over; sessions = λ before stood. alone_in_sessions study o.old o.new before over stood; later = (same file).1; rests = (same file).2 })
 
-  all_of : (text : List ℕ) (study other : Study) → Accepts Run text study → Accepts Run text other → KeepsAll leaves study o → KeepsAll leaves other o
-  all_of text study other a b h = subst (λ (t : Study). KeepsAll leaves t o) (one_accepted Run text study other a b) h
+  all_of : (text : List ℕ) (study other : Study) → Accepts text study → Accepts text other → KeepsAll leaves study o → KeepsAll leaves other o
+  all_of text study other a b h = subst (λ (t : Study). KeepsAll leaves t o) (one_accepted text study other a b) h
 
   all_decided : (study : Study) (rows : _) (ending : _) → IsDecided leaves study o rows ending → KeepsAll leaves study o
   all_decided study rows ending d = inr (d.book, d.before, d.added, d.continues)
@@ -139,7 +139,7 @@ module _ (leaves : Leaves) (s : Scene) (o : Outside) (untouched uncalled : Type 
   all_memory study m = elim m.left [ inl alone ↦ inl alone | inr b ↦ inr (b.0, b.1, [], b.2) ]
 
   pub keeps_of : (status : Status) → EndsSo leaves s o untouched uncalled status → NotRisen o.before o.now → NotRisen o.bench_before o.bench_now → ((size : ℕ) → status ≡ RestartFull size → ⊥) →
-      IfSome s.left (λ text. (study : Study) → Accepts Run text study → KeepsAll leaves study o)
+      IfSome s.left (λ text. (study : Study) → Accepts text study → KeepsAll leaves study o)
   keeps_of Finished h disk bench full = told s.left (λ text w other b. all_of text w.study other w.evaluates.accepts b (all_decided w.study w.rows w.ending w.evaluates.is_decided)) h.1
   keeps_of Aborted h disk bench full = told s.left (λ text w other b. all_of text w.study other w.evaluates.accepts b (all_decided w.study w.rows w.ending w.evaluates.is_decided)) h.1
   keeps_of (SinkFault Table) h disk bench full = told s.left (λ text w other b. all_of text w.study other w.evaluates.accepts b (all_decided w.study w.rows w.ending w.evaluates.is_decided)) h.2
@@ -168,17 +168,17 @@ module _ (leaves : Leaves) (text : List ℕ) (o : Outside) (can : CanRun text o)
 
   not_refused : {X : Type 0} (fault : OpenFault) → TellsOver text (λ study. IsRefusedFile study o fault) → X
   not_refused fault t =
-      let is = subst (λ (study : Study). IsRefusedFile study o fault) (one_accepted Run text t.study can.study t.accepts can.accepts) t.is in
+      let is = subst (λ (study : Study). IsRefusedFile study o fault) (one_accepted text t.study can.study t.accepts can.accepts) t.is in
       let refuses : Refuses o.mode (shape_of can.study) most_bytes can.course.now.bytes fault
       = subst (λ (c : Option Course). IfSome c (λ course. Refuses o.mode (shape_of can.study) most_bytes course.now.bytes fault)) can.tells is.refuses.refuses in
       absurd (refused_files_are_not_opened o.mode (shape_of can.study) most_bytes can.course.now.bytes fault can.before (is_shape can.study can.accepts) refuses can.can_open)
     where
-      is_shape : (study : Study) → Accepts Run text study → IsShape (shape_of study)
+      is_shape : (study : Study) → Accepts text study → IsShape (shape_of study)
       is_shape study accepts = let sound = reads_sound text study accepts.reads in record { variables = sound.variables; responses = sound.responses }
 
   not_full : {X : Type 0} (size : ℕ) → TellsOver text (λ study. IsFull leaves study o size) → X
   not_full size t =
-      let is = subst (λ (study : Study). IsFull leaves study o size) (one_accepted Run text t.study can.study t.accepts can.accepts) t.is in
+      let is = subst (λ (study : Study). IsFull leaves study o size) (one_accepted text t.study can.study t.accepts can.accepts) t.is in
       let room = subst (HasRoom can.study) (sym (one_before is.before is.continues.stood)) can.has_room in
       let are = subst (λ (n : ℕ). AreEntries n (length can.study.responses.labels) (is.before ++ is.added)) is.continues.variables
       (subst (λ (m : ℕ). AreEntries is.book.variables m (is.before ++ is.added)) is.continues.responses is.continues.stands_for.well_formed) in
@@ -193,7 +193,7 @@ module _ (leaves : Leaves) (s : Scene) (o : Outside) (untouched uncalled : Type 
   complete_of Finished h run source disk bench table out = always s.left (λ text can. inl refl)
   complete_of Aborted h run source disk bench table out = always s.left (λ text can. inl refl)
   complete_of (Usage at) h run source disk bench table out = not_misused Run s.words at run h.0.0
-  complete_of (StudyRefused fault) h run source disk bench table out = told s.left (λ text refused can. absurd (not_both Run text can.study fault can.accepts refused)) h.0.0.1
+  complete_of (StudyRefused fault) h run source disk bench table out = told s.left (λ text refused can. absurd (not_both text can.study fault can.accepts refused)) h.0.0.1
   complete_of SourceFault h run source disk bench table out = absurd (source h.0.0.1)
   complete_of (RestartRefused fault) h run source disk bench table out = told s.left (λ text t can. not_refused leaves text o can fault t) h.3
   complete_of DiskFault h run source disk bench table out = told s.left (λ text t can. absurd (disk t.is.rose)) h.3

@@ -1,5 +1,5 @@
 -- A run over its benches is one over the first of them.
-use Rattle.std.proofs.Common.{◌≡◌, ℕ, List, [], ◌∷◌, ◌++◌, length, Option, refl, sym, ap, ◌∙◌, subst}
+use Rattle.std.proofs.Common.{◌≡◌, ℕ, List, [], ◌∷◌, Option, sym, ap, ◌∙◌, subst}
 use Rattle.std.specs.Prelude.{drop}
 use Rattle.std.specs.List.{All}
 use Rattle.std.proofs.lemmas.List.Elements.{All-head, All-nil, All-cons}
@@ -7,7 +7,7 @@ use Rattle.dk_outside.specs.declared.course.Course.{Course}
 use Rattle.dk_outside.specs.declared.disk.Mode.{Mode}
 use Rattle.dk_outside.specs.Benches.{Contents}
 use Rattle.dk_book.specs.Books.{BookState}
-use Rattle.dk_runner.specs.Outsides.{Outside, outside_of, AllGoTogether, AreAfter}
+use Rattle.dk_runner.specs.Outsides.{outside_of, AllGoTogether, AreAfter}
 
 pub outside_first : {K B : Type 0} (told : K → Option Course) (disk_faults : K → ℕ) (held : B → Option Contents) (bench_faults : B → ℕ) (mode : Mode) (old new : K) (book : Option BookState) (olds news : List B) (first last : B) (rest : List B) →
     olds ≡ first ∷ rest → news ≡ last ∷ rest →

@@ -15,7 +15,7 @@ use Rattle.dk_runner.specs.declared.status.Which.TheVariants.{Table, Out}
 use Rattle.dk_runner.proofs.Texts.{told}
 
 pub ends_so : (leaves : Leaves) (s : Scene) (o : Outside) (untouched uncalled : Type 0) (study : Study) (status : Status) →
-    IsFor Run s.words × IfSome s.left (λ text. Accepts Run text study) → EndsStudy leaves study s o untouched status → EndsSo leaves s o untouched uncalled status
+    IsFor Run s.words × IfSome s.left (λ text. Accepts text study) → EndsStudy leaves study s o untouched status → EndsSo leaves s o untouched uncalled status
 ends_so leaves s o untouched uncalled study Finished reason h = (
   reason.0,
   told s.left (λ text accepts. record {

@@ -1,6 +1,5 @@
 -- What a run does on its bench, from what its evaluation says.
-use Rattle.std.proofs.Common.{◌≡◌, inl, inr, ℕ, ◌+◌, ◌≤◌, List, [], ◌∷◌, ◌++◌, length, Option, Some, None, refl, sym, ap, ◌∙◌, subst, arith, append_assoc}
-use Rattle.std.specs.Prelude.{IfSome}
+use Rattle.std.proofs.Common.{◌≡◌, inl, inr, ℕ, ◌+◌, List, [], ◌∷◌, ◌++◌, length, Option, Some, None, refl, sym, ap, ◌∙◌, subst, arith, append_assoc}
 use Rattle.std.specs.List.{All}
 use Rattle.std.proofs.lemmas.List.{append-nil}
 use Rattle.std.proofs.lemmas.List.Elements.{All-append, All-cons, All-nil, All-head, All-tail}
@@ -16,30 +15,28 @@ use Rattle.dk_types.specs.declared.entry.Said.TheVariants.{Failed}
 use Rattle.dk_types.specs.declared.rows.Row.{Row}
 use Rattle.dk_types.specs.Entries.{said, AreNextEntries}
 use Rattle.dk_types.specs.Answers.{Next, answer}
-use Rattle.dk_types.specs.Laws.{AnswersPoints, answer_in}
+use Rattle.dk_types.specs.Laws.{AnswersInOrder}
 use Rattle.dk_types.specs.Sheets.{IsPlace}
 use Rattle.dk_types.specs.Solo.{Seq, Child, Open, Ended, rosenbrock_child}
-use Rattle.dk_types.proofs.Alone.{rows_are_points}
+use Rattle.dk_types.proofs.Alone.{rows_in_order}
 use Rattle.dk_types.proofs.Placed.{next_has_place, places_stay}
 use Rattle.dk_params.specs.Params.{task_of}
 use Rattle.dk_fork.specs.Allowed.{AllowedBy, IsSingleValued}
 use Rattle.dk_fork.specs.Runs.{run}
-use Rattle.dk_fork.specs.Serving.{Stands}
 use Rattle.dk_fork.specs.declared.serve.BenchStep.{BenchStep}
 use Rattle.dk_fork.specs.declared.serve.BenchStep.TheVariants.{ClearBefore, Lay, Run as AtRun, Fetch, ClearAfter}
-use Rattle.dk_evaluate.specs.Making.{IsOwn, IsAccount, Accounts, HaveAllRun, HaveAllBroken, AreMadeBy, AreBrokenBy, MayRun}
+use Rattle.dk_evaluate.specs.Making.{IsOwn, Accounts, HaveAllRun, AreMadeBy, AreBrokenBy, MayRun}
 use Rattle.dk_evaluate.specs.Evaluated.{AreWaitedFor, IsAnswerOf}
 use Rattle.dk_evaluate.proofs.Waiting.{known_is_not_waited_for, decided_waits_for_nothing}
 use Rattle.dk_evaluate.proofs.Reaching.{undecided, waited_last}
-use Rattle.dk_runner.specs.Started.{Last, is_kept, is_torn, is_refused, is_lost, unkept, TellsRuns, IsAllowed, AreOpen, IsExtra, AreExtra, HasGained, GainsBy}
+use Rattle.dk_runner.specs.Started.{Last, is_kept, is_lost, TellsRuns, IsAllowed, AreOpen, IsExtra, AreExtra, HasGained, GainsBy}
 
 -- What the study waits for
 
 -- an attempt for which the study waits is the next one of its point
 waits_open : (study : Study) (entries : List Entry) (rows : List Row) (p : List Decimal) (attempt : ℕ) → Seq study entries rows (Open p attempt) → answer study.interface.rule entries p ≡ Next attempt
 waits_open study entries rows p attempt waiting =
-    let k : AnswersPoints study (said entries) rows (Open p attempt) = rows_are_points study (said entries) rows (Open p attempt) waiting in
-    ap (answer_in study (said entries)) k.stands.2 ∙ k.stands.1
+    let o : AnswersInOrder study (said entries) rows (Open p attempt) = rows_in_order study (said entries) rows (Open p attempt) waiting in o.stands.1
 
 pub open_of : (study : Study) (before made : List Entry) → AreWaitedFor study before made → AreOpen study.interface.rule before made
 open_of study before [] waited = tt

@@ -21,18 +21,18 @@ accepted_line study =
 -- the text is a study's, and the sink has taken its line
 pub record TellsAccepted (text : List ℕ) (old new : Option Held) : Type 0 where
   pub study : Study
-  pub accepts : Accepts Check text study
+  pub accepts : Accepts text study
   pub grew : Grows old new (accepted_line study)
 
 -- the text is a study's, and the sink has taken a front of its line
 pub record BreaksAccepted (text : List ℕ) (old new : Option Held) : Type 0 where
   pub study : Study
-  pub accepts : Accepts Check text study
+  pub accepts : Accepts text study
   pub grew : GrowsByFront old new (accepted_line study)
 
 -- where the text is a study's the status says so, unless memory ran out
 abbrev pub EndsAccepted : List ℕ → Status → Type 0
-EndsAccepted text status = (study : Study) → Accepts Check text study → (status ≡ Finished) ⊎ (status ≡ NoMemory)
+EndsAccepted text status = (study : Study) → Accepts text study → (status ≡ Finished) ⊎ (status ≡ NoMemory)
 
 -- how the line of an accepted study was written
 abbrev pub TellsStudy : Study → (old new : Option Held) (before now : ℕ) → Status → Type 0

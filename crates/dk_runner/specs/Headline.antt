@@ -19,8 +19,6 @@ use Rattle.dk_types.specs.Texts.{table, summary}
 use Rattle.dk_report.specs.Tables.{HasTable, HasFront}
 use Rattle.dk_reader.specs.Reading.{Reads}
 use Rattle.dk_runner.specs.Accepted.{Accepts, Refused}
-use Rattle.dk_words.specs.declared.purpose.Purpose.{Purpose}
-use Rattle.dk_words.specs.declared.purpose.Purpose.TheVariants.{Run}
 use Rattle.dk_runner.specs.Lines.{status_of, is_decided as is_decided_status}
 use Rattle.dk_runner.specs.declared.status.Status.{Status}
 use Rattle.dk_runner.specs.declared.status.Status.TheVariants.{StudyRefused, RestartRefused, DiskFault, RestartFull, BenchFault, NoMemory}
@@ -29,7 +27,7 @@ use Rattle.dk_reader.specs.declared.fault.StudyFault.{StudyFault}
 -- a study's text, its rows and its ending, where it is evaluated one point at a time by what the restart file has at the
 -- end
 pub record Evaluates (leaves : Leaves) (text : List ℕ) (o : Outside) (study : Study) (rows : List Row) (ending : Ending) : Type 0 where
-  pub accepts : Accepts Run text study
+  pub accepts : Accepts text study
   pub is_decided : IsDecided leaves study o rows ending
 
 -- the table and the summary are written whole
@@ -68,13 +66,13 @@ abbrev pub Says : (old new : Option Held) (before now : ℕ) → List ℕ → Ty
 Says old new before now text = Grows old new text ⊎ (Rose before now × GrowsByFront old new text)
 
 -- where the text is refused the status says so, unless memory ran out
-abbrev pub TellsRefusal : Purpose → List ℕ → Status → Type 0
-TellsRefusal purpose text status = (fault : StudyFault) → Refused purpose text fault → (status ≡ StudyRefused fault) ⊎ (status ≡ NoMemory)
+abbrev pub TellsRefusal : List ℕ → Status → Type 0
+TellsRefusal text status = (fault : StudyFault) → Refused text fault → (status ≡ StudyRefused fault) ⊎ (status ≡ NoMemory)
 
 -- the text's study can be run to its end: the disk tells of a file that can be opened, and that has room
 pub record CanRun (text : List ℕ) (o : Outside) : Type 0 where
   pub study : Study
-  pub accepts : Accepts Run text study
+  pub accepts : Accepts text study
   pub course : Course
   pub tells : o.old ≡ Some course
   pub before : List Entry
@@ -88,7 +86,7 @@ EndsDecided status = IsTrue (is_decided_status status) ⊎ (status ≡ NoMemory)
 -- why the restart file wasn't opened, or an append failed
 pub record TellsOver (text : List ℕ) (P : Study → Type 0) : Type 0 where
   pub study : Study
-  pub accepts : Accepts Run text study
+  pub accepts : Accepts text study
   pub is : P study
 
 -- where the text says a study that asks for no table, this stands
@@ -97,7 +95,7 @@ WithoutTable text untouched = (study : Study) → Reads text study → study.tab
 
 -- where the text says a study without a driver, this stands
 abbrev pub WithoutDriver : List ℕ → Type 0 → Type 0
-WithoutDriver text untouched = (study : Study) → Accepts Run text study → study.interface.driver ≡ Direct → untouched
+WithoutDriver text untouched = (study : Study) → Accepts text study → study.interface.driver ≡ Direct → untouched
 
 -- in the mode in which the words open the restart file
 abbrev pub InMode : List (List ℕ) → (Mode → Type 0) → Type 0

@@ -1,12 +1,11 @@
 // The study that words and a source give.
-ghost use Rattle.std.specs.Prelude.{◌≡◌, ◌≤◌, true, length, map, IfErr, IfOk, IsTrue, OnOk, string_bytes};
+ghost use Rattle.std.specs.Prelude.{◌≡◌, ◌≤◌, length, map, IfErr, IfOk, IsTrue, OnOk, string_bytes};
 ghost use Rattle.dk_outside.specs.Sources.{IsDrained, TakesAtMost};
 ghost use Rattle.dk_types.specs.Sound.{IsSound};
-ghost use Rattle.dk_runner.specs.Accepted.{serves as serves_defined, at_beginning};
+ghost use Rattle.dk_runner.specs.Accepted.{at_beginning};
 ghost use Rattle.dk_runner.specs.Causes.{IsVerdict, IsReason};
 ghost use Rattle.dk_runner.specs.Lines.{is_early, is_read};
 
-use crate::built::serves;
 use crate::{Purpose, Span, Status, StudyFault, StudyKind};
 use dk_outside::Source;
 use dk_outside::source::{TextFault, read_text};
@@ -28,30 +27,27 @@ pub fn accept<S: Source>(
     ensures stays_within { IfErr result (λ status. status ≡ Status.SourceFault → TakesAtMost 1048576 (S.left source.old) (S.left source.new)) }
     ensures is_early { IfErr result (λ status. IsTrue (is_early status)) }
     ensures is_sound { IfOk result IsSound }
-    ensures is_served { IfOk result (λ study. serves_defined purpose study ≡ true) }
 {
     if let Some(at) = usage_for(purpose, words) {
         return Err(Status::Usage { at });
     }
     match read_text(alloc, source) {
-        Ok(text) => accept_text(alloc, purpose, &text),
+        Ok(text) => accept_text(alloc, &text),
         Err(TextFault::Failed) => Err(Status::SourceFault),
         Err(TextFault::TooLong) => Err(refused(StudyKind::TooLong)),
         Err(TextFault::NoMemory) => Err(Status::NoMemory),
     }
 }
 
-/// The study that a text gives for a run or a check, or why it gives none.
-fn accept_text(alloc: Global, purpose: Purpose, text: &[u8]) -> Result<Study, Status>
+/// The study that a text gives, or why it gives none.
+fn accept_text(alloc: Global, text: &[u8]) -> Result<Study, Status>
     requires { length text.now ≤ 1048576 }
-    ensures has_verdict { IsVerdict purpose text.now result }
+    ensures has_verdict { IsVerdict text.now result }
     ensures is_early { IfErr result (λ status. IsTrue (is_early status)) }
     ensures is_sound { IfOk result IsSound }
-    ensures is_served { IfOk result (λ study. serves_defined purpose study ≡ true) }
 {
     match read_study(alloc, text) {
-        Ok(study) if serves(purpose, &study) => Ok(study),
-        Ok(_) => Err(refused(StudyKind::Unsupported)),
+        Ok(study) => Ok(study),
         Err(ReadRefusal::Study(fault)) => Err(Status::StudyRefused(fault)),
         Err(ReadRefusal::NoMemory) => Err(Status::NoMemory),
     }

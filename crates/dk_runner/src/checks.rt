@@ -40,11 +40,11 @@ pub fn check<S: Source, U: Sink>(
     ensures misused { (at : ℕ) → Misused Purpose.Check (map string_bytes words.now) at → result ≡ Status.Usage at }
 
     // A study is refused only by its text.
-    ensures refused { (fault : StudyFault) → result ≡ Status.StudyRefused fault → IfSome (S.left study.old) (λ text. Refused Purpose.Check text fault) }
+    ensures refused { (fault : StudyFault) → result ≡ Status.StudyRefused fault → IfSome (S.left study.old) (λ text. Refused text fault) }
 
     // Where nothing fails, a text is refused or accepted as it is, or there is no memory.
     ensures refusal_told { IsFor Purpose.Check (map string_bytes words.now) → ¬ Rose (S.faults study.old) (S.faults study.new) →
-        IfSome (S.left study.old) (λ text. TellsRefusal Purpose.Check text result) }
+        IfSome (S.left study.old) (λ text. TellsRefusal text result) }
     ensures accepted_told { IsFor Purpose.Check (map string_bytes words.now) → ¬ Rose (S.faults study.old) (S.faults study.new) → ¬ Rose (U.faults out.old) (U.faults out.new) →
         IfSome (S.left study.old) (λ text. EndsAccepted text result) }
 

@@ -4,7 +4,6 @@
 
 mod accept;
 mod benches;
-mod built;
 mod checks;
 mod over_file;
 mod refusal;

@@ -1,11 +1,10 @@
 // The run of an accepted study over its restart file.
-ghost use Rattle.std.specs.Prelude.{◌≡◌, ◌≤◌, [], ◌∷◌, true, IfOk, IfErr, MatchResult, Some, None};
+ghost use Rattle.std.specs.Prelude.{◌≡◌, ◌≤◌, [], ◌∷◌, IfOk, IfErr, MatchResult, Some, None};
 ghost use Rattle.dk_types.specs.Sound.{IsSound};
-ghost use Rattle.dk_types.specs.Points.{has_points};
 ghost use Rattle.dk_types.specs.declared.study.Driver.TheVariants.{Direct};
 ghost use Rattle.dk_journal.specs.Openings.{Opens, OpensOverTold};
 ghost use Rattle.dk_journal.specs.Sessions.{shape_of};
-ghost use Rattle.dk_report.specs.Widths.{HaveWidths};
+ghost use Rattle.dk_types.specs.Widths.{HaveWidths};
 ghost use Rattle.dk_runner.specs.Endings.{EndsStudy, Reports, Summarizes, Tells, scene};
 ghost use Rattle.dk_runner.specs.Headline.{OnlyGrows, Says};
 ghost use Rattle.dk_runner.specs.Lines.{line, status_of as status_of_decided, status_of_fault, status_of_refused, status_of_stop};
@@ -48,7 +47,6 @@ pub fn run_study<K: Disk, T: Sink, U: Sink, B: Bench>(
     out: &mut U,
 ) -> Left<K, B>
     requires sound { IsSound study.now }
-    requires points { has_points study.now.method ≡ true }
     requires together { AllGoTogether (B.together bench) }
     ensures grows { OnlyGrows (U.held out.old) (U.held out.new) }
     ensures leaves_table { study.now.table ≡ None → table.new ≡ table.old }

@@ -38,9 +38,8 @@ pub struct Ended<K, B> {
 /// The words are `-i FILE`, with `-r FILE` or `-w FILE` where they name the restart file, and `study` is the source over the
 /// study's file. Its text is read, the restart file is opened, and the study is evaluated one point after another under its
 /// rule for failures, by the program's own function or by a child on the first bench: an attempt that the file holds isn't
-/// made again, and each one that is made is appended to it before it counts. Then the table and the summary are written. A
-/// text may say any study; so far vector, list, centered and multidimensional studies are evaluated, and a compass search is
-/// refused as unsupported, with an empty span at the text's beginning.
+/// made again, and each one that is made is appended to it before it counts. Then the table and the summary are written. Each
+/// study that a text may say is run, of each of the five methods; a compass search chooses its points by the values so far.
 ///
 /// `restart` is the restart file's disk, opened as the words say: `mode_of` tells in which mode. At least 64 benches are handed
 /// in, and come back in their order; on each of them all names of two files go together. It may wait for a child.
@@ -70,9 +69,9 @@ pub fn dakota<S: Source, K: Disk, T: Sink, U: Sink, B: Bench>(
     ensures misused { (at : ℕ) → Misused Purpose.Run (map string_bytes words.now) at → result.status ≡ Status.Usage at }
 
     // A study is refused only by its text, and always where its source didn't fail.
-    ensures refused { (fault : StudyFault) → result.status ≡ Status.StudyRefused fault → IfSome (S.left study.old) (λ text. Refused Purpose.Run text fault) }
+    ensures refused { (fault : StudyFault) → result.status ≡ Status.StudyRefused fault → IfSome (S.left study.old) (λ text. Refused text fault) }
     ensures refusal_told { IsFor Purpose.Run (map string_bytes words.now) → ¬ Rose (S.faults study.old) (S.faults study.new) →
-        IfSome (S.left study.old) (λ text. TellsRefusal Purpose.Run text result.status) }
+        IfSome (S.left study.old) (λ text. TellsRefusal text result.status) }
 
     // A fault of the outside is answered only where that object's count of faults rose.
     ensures source { result.status ≡ Status.SourceFault → Rose (S.faults study.old) (S.faults study.new) }
@@ -87,12 +86,12 @@ pub fn dakota<S: Source, K: Disk, T: Sink, U: Sink, B: Bench>(
     // The restart file is left as it was, or gone on with. No attempt that it holds is made again, and a duplicate starts
     // nothing: each child that ran is that of an attempt for which the study waited, and each such attempt is in the file, but
     // for the last one where the disk or the bench failed or the file is full.
-    ensures file { InMode (map string_bytes words.now) (λ mode. IfSome (S.left study.old) (λ text. (s : StudyOf) → Accepts Purpose.Run text s →
+    ensures file { InMode (map string_bytes words.now) (λ mode. IfSome (S.left study.old) (λ text. (s : StudyOf) → Accepts text s →
         LeavesFile B.leaves s (outside_of K.told K.faults B.held B.faults mode restart result.restart result.book benches.items result.benches.items))) }
 
     // Where nothing fails and there is room, each child that ran is that of an attempt that the file has.
     ensures keeps_all { ¬ Rose (K.faults restart) (K.faults result.restart) → ¬ Rose (first_faults B.faults benches.items) (first_faults B.faults result.benches.items) →
-        ((size : ℕ) → result.status ≢ Status.RestartFull size) → InMode (map string_bytes words.now) (λ mode. IfSome (S.left study.old) (λ text. (s : StudyOf) → Accepts Purpose.Run text s →
+        ((size : ℕ) → result.status ≢ Status.RestartFull size) → InMode (map string_bytes words.now) (λ mode. IfSome (S.left study.old) (λ text. (s : StudyOf) → Accepts text s →
         KeepsAll B.leaves s (outside_of K.told K.faults B.held B.faults mode restart result.restart result.book benches.items result.benches.items))) }
 
     // What the sinks hold then.

@@ -12,6 +12,7 @@ mod long_disk;
 mod recovery;
 mod refusals;
 mod restarts;
+mod searches;
 mod sizes;
 mod studies;
 mod texts;

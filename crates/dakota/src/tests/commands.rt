@@ -251,6 +251,35 @@ fn simulations_are_run(rt: HostRuntime) -> Result<(), Fail> {
     Ok(())
 }
 
+const SEARCH: &str = "environment tabular_data tabular_data_file = 't.dat'
+method compass_search initial_delta = 1 threshold_delta = 0.5
+variables continuous_design = 2 lower_bounds = 0 0 upper_bounds = 2 2 descriptors = 'x1' 'x2'
+interface analysis_drivers = 'rosenbrock' direct
+responses objective_functions = 1
+";
+
+const SEARCHED: &str = "<<<<< Study finished: threshold_delta
+<<<<< Function evaluation summary: 5 total (5 new, 0 duplicate)
+<<<<< Best evaluation: 1
+<<<<< Best parameters: x1 = 0, x2 = 0
+<<<<< Best objective function: obj_fn = 1
+";
+
+const POLLED: &str = "%eval_id interface x1 x2 obj_fn
+1 NO_ID 0 0 1
+2 NO_ID 1 0 100
+3 NO_ID 0 1 101
+4 NO_ID 0.5 0 6.5
+5 NO_ID 0 0.5 26
+";
+
+#[test]
+fn a_search_is_run(rt: HostRuntime) -> Result<(), Fail> {
+    begin_anew(&rt);
+    fs::write(&rt, STUDY, SEARCH)?;
+    assert_command(&rt, rt.stderr(), &["-i", STUDY], POLLED, 0, SEARCHED)
+}
+
 #[test]
 fn a_closed_standard_output_is_told_by_the_status(rt: HostRuntime) -> Result<(), Fail> {
     let alloc = rt.alloc();

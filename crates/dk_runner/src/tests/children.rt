@@ -1,6 +1,7 @@
 // Runs whose points are evaluated by a simulation.
 use super::benches::{Answer, Simulation, benches_of};
 use super::files::FILE;
+use super::searches::{ABOUT, HALVED_ONCE, TO_HALF};
 use super::texts::{METHOD, edited};
 use super::{FOUND, FRESH, Left, PLENTY, RESUMED, TABLE, assert_refused, assert_told, run_on};
 use dk_memory::{Image, MemDisk, MemSource};
@@ -83,10 +84,10 @@ const RECOVERED_TOLD: &str = "<<<<< Study finished: complete
 <<<<< Best objective function: obj_fn = 99
 ";
 
-/// The rule and the answers, and then the exit status, the table, the summary, how many bytes the restart file has, and how
-/// often the simulation ran.
+/// The edits of the base study and the answers, and then the exit status, the table, the summary, how many bytes the restart
+/// file has, and how often the simulation ran.
 type Case = (
-    (&'static str, &'static str),
+    &'static [(&'static str, &'static str)],
     &'static [Answer],
     u8,
     &'static str,
@@ -97,7 +98,7 @@ type Case = (
 
 const CASES: [Case; 3] = [
     (
-        RETRY,
+        &[ONE_POINT, RETRY],
         &[Answer("", 3, b"4"), Answer("", 1, b"FAIL\n")],
         0,
         FOUR,
@@ -106,7 +107,7 @@ const CASES: [Case; 3] = [
         3,
     ),
     (
-        RETRY,
+        &[ONE_POINT, RETRY],
         &[Answer("", 1, b"FAIL\n")],
         1,
         NO_ROWS,
@@ -115,7 +116,7 @@ const CASES: [Case; 3] = [
         3,
     ),
     (
-        RECOVER,
+        &[ONE_POINT, RECOVER],
         &[Answer("", 1, b"FAILURE at step 3\n")],
         0,
         RECOVERED,
@@ -125,18 +126,53 @@ const CASES: [Case; 3] = [
     ),
 ];
 
+/// The study of a case ends as it should.
+fn assert_case(rt: &impl Abort, alloc: Global, case: Case) -> Result<(), AllocError> {
+    let (edits, answers, code, table, told, length, runs) = case;
+    let disk = MemDisk::disk(alloc, b"", &[], None)?;
+    let simulation = Simulation { answers };
+    let mut left = run_over(alloc, FRESH, edits, disk, simulation, &[])?;
+    assert_told(rt, &left, code, table, told);
+    assert_eq!(rt; left.disk.length(), Ok(length), "{told}");
+    assert_runs(rt, &left, runs, told);
+    Ok(())
+}
+
 /// A simulation that fails is tried again as often as the rule says, or the rule's value stands for it.
 #[test]
 fn simulations_that_fail_are_handled_as_the_rule_says(rt: HostRuntime) -> Result<(), Fail> {
-    let alloc = rt.alloc();
-    for (rule, answers, code, table, told, length, runs) in CASES {
-        let disk = MemDisk::disk(alloc, b"", &[], None)?;
-        let simulation = Simulation { answers };
-        let mut left = run_over(alloc, FRESH, &[ONE_POINT, rule], disk, simulation, &[])?;
-        assert_told(&rt, &left, code, table, told);
-        assert_eq!(rt; left.disk.length(), Ok(length), "{told}");
-        assert_runs(&rt, &left, runs, told);
+    for case in CASES {
+        assert_case(&rt, rt.alloc(), case)?;
     }
+    Ok(())
+}
+
+const TIED: &str = "%eval_id interface x1 x2 obj_fn
+1 NO_ID 0 0 1
+2 NO_ID 1 0 1
+3 NO_ID -1 0 1
+4 NO_ID 0 1 1
+5 NO_ID 0 -1 1
+6 NO_ID 0.5 0 1
+7 NO_ID -0.5 0 1
+8 NO_ID 0 0.5 1
+9 NO_ID 0 -0.5 1
+";
+
+const OVER_TIES: Case = (
+    &[TO_HALF, ABOUT, FORK],
+    &[Answer("", 1, b"1")],
+    0,
+    TIED,
+    HALVED_ONCE,
+    567,
+    9,
+);
+
+/// A search over values that are all alike stays where it is and halves its step.
+#[test]
+fn a_search_over_ties_stays(rt: HostRuntime) -> Result<(), Fail> {
+    assert_case(&rt, rt.alloc(), OVER_TIES)?;
     Ok(())
 }
 

@@ -1,5 +1,6 @@
 // Runs whose disk fails or stops, and runs over what a crash may leave then.
 use super::files::{FILE, GATES};
+use super::searches::{ABOUT, HALVED, HALVED_ONCE, TO_HALF};
 use super::{FOUND, FRESH, Left, RESUMED, TABLE, assert_refused, assert_told, run};
 use dk_memory::{Image, MemDisk};
 use std::alloc::{AllocError, Global};
@@ -67,6 +68,21 @@ fn a_run_goes_on_behind_a_failed_write(rt: HostRuntime) -> Result<(), Fail> {
     let left = go_on(alloc, &edits, &image)?;
     assert_told(&rt, &left, 0, FOUR_ROWS, FOUR_TOLD);
     assert_eq!(rt; left.file()?.len(), 267);
+    Ok(())
+}
+
+/// The disk fails at the first write of the fourth record, in the middle of a search's first four polls. The search that goes
+/// on ends as one that wasn't stopped.
+#[test]
+fn a_search_goes_on_behind_a_failed_write(rt: HostRuntime) -> Result<(), Fail> {
+    let alloc = rt.alloc();
+    let edits = [TO_HALF, ABOUT];
+    let left = run_on(alloc, &edits, &[21], None)?;
+    assert_refused(&rt, &left, 6, FAILED);
+    let image = left.disk.image(left.disk.moments(), Image::Old)?;
+    let left = go_on(alloc, &edits, &image)?;
+    assert_told(&rt, &left, 0, HALVED, HALVED_ONCE);
+    assert_eq!(rt; left.file()?.len(), 567);
     Ok(())
 }
 

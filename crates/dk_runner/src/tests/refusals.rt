@@ -1,5 +1,5 @@
 // Words and texts that no run is made of.
-use super::texts::{BASE, METHOD, edited, unmarked};
+use super::texts::{BASE, edited, unmarked};
 use super::{FRESH, assert_refused, run_text};
 use std::alloc::Global;
 use std::process::Abort;
@@ -70,13 +70,4 @@ fn other_texts_are_refused_at_their_place(rt: HostRuntime) -> Result<(), Fail> {
     }
     let long = vec![in alloc; b'#'; 1_048_577]?;
     assert_no_study(&rt, alloc, &long, "TooLong", 0, 0)
-}
-
-/// A compass search isn't evaluated so far, and is refused as unsupported, at the text's beginning.
-#[test]
-fn a_compass_search_is_refused(rt: HostRuntime) -> Result<(), Fail> {
-    let alloc = rt.alloc();
-    let search = "compass_search initial_delta = 1 threshold_delta = 0.5";
-    let text = edited(alloc, &[(METHOD, search)])?;
-    assert_no_study(&rt, alloc, &text, "Unsupported", 0, 0)
 }

@@ -6,7 +6,7 @@ use std::process::Abort;
 use std::test::Fail;
 
 /// The edits of the base study, the exit status of a run of it, its table and its summary.
-type Case<'a> = (&'a [(&'a str, &'a str)], u8, &'a str, &'a str);
+pub type Case<'a> = (&'a [(&'a str, &'a str)], u8, &'a str, &'a str);
 
 const CENTERED: &str = "%eval_id interface x1 x2 obj_fn
 1 NO_ID 0 0 1
@@ -75,7 +75,7 @@ const STOPPED_ON_THE_WAY: &str = "<<<<< Study aborted: evaluation 2 failed, atte
 ";
 
 /// Each of these studies comes to its status, its table and its summary.
-fn assert_cases(rt: &impl Abort, alloc: Global, cases: &[Case]) -> Result<(), Fail> {
+pub fn assert_cases(rt: &impl Abort, alloc: Global, cases: &[Case]) -> Result<(), Fail> {
     for (edits, code, rows, told) in cases {
         assert_told(rt, &run_anew(alloc, edits)?, *code, rows, told);
     }

@@ -1,7 +1,6 @@
-use Rattle.std.proofs.Common.{◌≡◌, ℕ, List, [], ◌∷◌, ap, subst, refl, arith}
+use Rattle.std.proofs.Common.{◌≡◌, [], ◌∷◌, ap, subst, arith}
 use Rattle.std.specs.Prelude.{map, string_bytes, IfSome}
 use Rattle.dk_types.specs.declared.study.Study.{Study}
-use Rattle.dk_words.specs.declared.purpose.Purpose.TheVariants.{Run}
 use Rattle.dk_runner.specs.Accepted.{Accepts}
 use Rattle.dk_runner.specs.Endings.{Scene, scene}
 use Rattle.dk_runner.specs.Headline.{Written, BreaksTable, BreaksSummary, StopsOver, CanRun, EndsDecided}
@@ -62,7 +61,7 @@ returns-clause-file g c =
     let untouched = c.run-left.new.table ≡ c.args.table.now in
     let uncalled = (left.restart ≡ c.args.restart) × (left.bench ≡ first) in
     let ends = c.run-left.ensures.ends in
-    in_mode _ words c.mode_of.result c.mode_of.ensures.of_run (subst (λ (x : Outside). IfSome at.left (λ text. (s : Study) → Accepts Run text s → LeavesFile leaves s x)) same (file_of leaves at o untouched uncalled (λ stays. (ap (g.K.Disk.told) stays.0, (let e = ap (g.K.Disk.faults) stays.0 in omega (arith, e)), ap (g.B.Bench.held) stays.1)) left.status ends))
+    in_mode _ words c.mode_of.result c.mode_of.ensures.of_run (subst (λ (x : Outside). IfSome at.left (λ text. (s : Study) → Accepts text s → LeavesFile leaves s x)) same (file_of leaves at o untouched uncalled (λ stays. (ap (g.K.Disk.told) stays.0, (let e = ap (g.K.Disk.faults) stays.0 in omega (arith, e)), ap (g.B.Bench.held) stays.1)) left.status ends))
 
 pub returns-clause-keeps_all : goal.returns-clause-keeps_all
 returns-clause-keeps_all g c =
@@ -79,7 +78,7 @@ returns-clause-keeps_all g c =
     let untouched = c.run-left.new.table ≡ c.args.table.now in
     let uncalled = (left.restart ≡ c.args.restart) × (left.bench ≡ first) in
     let ends = c.run-left.ensures.ends in
-    λ disk bench full. in_mode _ words c.mode_of.result c.mode_of.ensures.of_run (subst (λ (x : Outside). NotRisen x.bench_before x.bench_now → IfSome at.left (λ text. (s : Study) → Accepts Run text s → KeepsAll leaves s x)) same (λ calm. keeps_of leaves at o untouched uncalled (λ stays. (ap (g.K.Disk.told) stays.0, (let e = ap (g.K.Disk.faults) stays.0 in omega (arith, e)), ap (g.B.Bench.held) stays.1)) left.status ends disk calm full) bench)
+    λ disk bench full. in_mode _ words c.mode_of.result c.mode_of.ensures.of_run (subst (λ (x : Outside). NotRisen x.bench_before x.bench_now → IfSome at.left (λ text. (s : Study) → Accepts text s → KeepsAll leaves s x)) same (λ calm. keeps_of leaves at o untouched uncalled (λ stays. (ap (g.K.Disk.told) stays.0, (let e = ap (g.K.Disk.faults) stays.0 in omega (arith, e)), ap (g.B.Bench.held) stays.1)) left.status ends disk calm full) bench)
 
 pub returns-clause-table_front : goal.returns-clause-table_front
 returns-clause-table_front g c =

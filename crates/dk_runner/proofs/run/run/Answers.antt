@@ -2,7 +2,7 @@ use Rattle.std.proofs.Common.{◌≡◌, [], ◌∷◌}
 use Rattle.std.specs.Prelude.{map, string_bytes}
 use Rattle.dk_runner.specs.Endings.{Scene, scene}
 use Rattle.dk_runner.specs.Outsides.{outside_of}
-use Rattle.dk_runner.proofs.Accepts.{without_table, without_driver, untouched_benches}
+use Rattle.dk_runner.proofs.Accepts.{without_table, without_driver}
 use Rattle.dk_runner.proofs.Reported.{ends_so}
 use Rattle.dk_runner.proofs.run.run.Goals as goal
 
