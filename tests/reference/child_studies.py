@@ -7,7 +7,6 @@ to what the restart file has before a run is resumed: an attempt that is made ag
 import functools
 
 from crash_studies import Study
-from dakota import points_of
 from decimals import decimal_of
 from parameters import sci_text
 
@@ -49,7 +48,7 @@ echo "-$row.$attempt f$point" >"$4"
 """
 
 TEXT = """{table}
-method {method}_parameter_study {steps}
+method {method} {steps}
 variables continuous_design = {variables} {bounds} descriptors = {labels}
 interface analysis_drivers = 'sh {driver} {every} {calls}' fork {files} failure_capture {rule}
 responses {responses} no_gradients no_hessians
@@ -57,6 +56,7 @@ responses {responses} no_gradients no_hessians
 WITH_TABLE = "environment tabular_data tabular_data_file = 't.dat'"
 TWICE = "list_of_points = 0.5 1, 1 1, 0.50 1, -2 3e-7, 1e0 1, 7 7, 0 0, 5e-1 10e-1, 8 -8, 7.0 7, 9 9, 1 2, 0 0, 1 3, 1 4, 1 1"
 FLAT = "step_vector = 1 0"
+HALVES = "initial_delta = 1 threshold_delta = 0.1"
 LONG = "list_of_points = 1e15 1e-9, 123456789012.25 -7, -1e-9 1e-9, 1e15 0.000000001, 3 4, 1234567890123 1, 5 5, 3 4.0, 6 6"
 
 # How many variables there are; the method and its keywords; those of `variables`; those of `interface` on the two files; the
@@ -80,6 +80,11 @@ ROWS = [
     (1, "multidim", "partitions = 18", "lower_bounds = 0 upper_bounds = 1", "results_file = 'a value'", "retry = 1", 2, 16, 2),
     (2, "centered", "step_vector = 1 .1 steps_per_variable = 3 2", "", "file_tag file_save aprepro", "abort", 1, 1, 0),
     (2, "centered", f"{FLAT} steps_per_variable = 2 2", "", "parameters_file = 'a point' file_save", "recover = 1 2 3", 3, 2, 1),
+    (2, "compass", f"{HALVES} max_function_evaluations = 40", "", "file_tag", "abort", 1, 1, 0),
+    (1, "compass", "initial_delta = 1 threshold_delta = 1e-3", "lower_bounds = -1 upper_bounds = 1", "", "retry = 2", 1, 3, 2),
+    (2, "compass", f"{HALVES} max_iterations = 20", "lower_bounds = 2*-2 upper_bounds = 2*2", "file_tag file_save", "recover = -9.5", 1, 4, 1),
+    (3, "compass", f"{HALVES} max_iterations = 5", "lower_bounds = 3*-1 upper_bounds = 3*1", "aprepro", "retry = 1", 1, 5, 1),
+    (2, "compass", HALVES, "lower_bounds = 2*0 upper_bounds = 2*1", "asynchronous", "abort", 1, 11, 1),
 ]
 
 
@@ -97,8 +102,10 @@ class ChildStudy(Study):
         beside = {DRIVER: SCRIPT, LAST: b"0 0\n"}
         super().__init__(text, beside, functools.partial(said, every, calls))
         self.numbers = {}
-        for row, units in enumerate(points_of(self.parts), 1):
-            self.numbers.setdefault(tuple(decimal_of(it, self.parts.unit) for it in units), row)
+        points = [row[: len(self.parts.variables.labels)] for row in self.rows]
+        # The last one has no values where the study was aborted.
+        for row, point in enumerate([*points, *(it.point for it in self.entries[-1:])], 1):
+            self.numbers.setdefault(point, row)
 
     def line(self, entry):
         """The line of the start that makes an entry."""
@@ -114,7 +121,7 @@ def text_of(row, has_table):
     variables, method, steps, bounds, files, rule, responses, every, calls = row
     return TEXT.format(
         table=WITH_TABLE if has_table else "",
-        method=method,
+        method="compass_search" if method == "compass" else f"{method}_parameter_study",
         steps=steps,
         variables=variables,
         bounds=bounds,

@@ -16,8 +16,8 @@ status is 2 to 6. With --keep, the folders of a case that differs are kept there
 
 At the end it is told how many cases had each status and each kind of refusal, at which steps benches failed, and how often
 each method ended how under which rule for failures, with children (`forked`) or without; under `recover` without children also
-whether none, some or all of the points failed; and how runs over a restart file that was there ended. A study that is
-accepted and doesn't run so far counts as `not run`. The exit status is 1 where a case differs.
+whether none, some or all of the points failed; and how runs over a restart file that was there ended. The exit status is 1
+where a case differs.
 """
 import argparse
 import collections
@@ -32,8 +32,7 @@ import tempfile
 
 import plain_driver
 from contents import content_of
-from dakota import attempt_of, evaluate, is_evaluated, points_of
-from decimals import decimal_of, rosenbrock
+from dakota import attempt_of, evaluate
 from form_texts import form_text
 from restart import Shape, file_bytes, shape_of
 from restart_file import Journal
@@ -74,16 +73,16 @@ def starts_many(study):
 
 
 def is_left_out(study):
-    return is_forked(study) and study.interface.driver.split()[0] == b"sh" and is_evaluated(study) and starts_many(study)
+    return is_forked(study) and study.interface.driver.split()[0] == b"sh" and starts_many(study)
 
 
 def shape_and_entries(study):
-    """The labels of a study, and the attempts that it makes, with the driver of generated studies where it has children;
-    those of another study where it isn't evaluated."""
+    """The labels of a study, and the attempts that it makes, with the driver of generated studies where it has children; none
+    where there may be too many. For a text that is refused these are another study's."""
     journal = Journal()
     if study is None:
         return Shape(["x1", "x2"], ["obj_fn"]), []
-    if is_evaluated(study) and study.limit <= (MOST_CHILDREN if is_forked(study) else MOST_EVALUATIONS):
+    if study.limit <= (MOST_CHILDREN if is_forked(study) else MOST_EVALUATIONS):
         evaluate(study, journal, plain_driver.said if is_forked(study) else attempt_of)
     return shape_of(study), journal.book.entries
 
@@ -271,15 +270,17 @@ def faults(words, ours, theirs):
 
 def failures(study):
     """How many points of a study without children fail: none, some or all."""
-    values = [rosenbrock(*(decimal_of(it, study.unit) for it in point)) for point in points_of(study)]
+    journal = Journal()
+    evaluate(study, journal)
+    values = [it.said for it in journal.book.entries]
     return "none" if None not in values else "some" if any(values) else "all"
 
 
 def kinds_of(said, case):
     """What the text that a command prints says of the study, in short."""
-    refused = re.match(rb"dakota: study refused: (\w+) at bytes (.*)", said)
+    refused = re.match(rb"dakota: study refused: (\w+) at bytes", said)
     if refused:
-        yield "not run" if refused.groups() == (b"Unsupported", b"0..0") else refused[1].decode()
+        yield refused[1].decode()
     if said.startswith(b"study accepted"):
         yield "accepted"
     restart = re.match(rb"dakota: restart refused: (\w+)", said)
@@ -288,15 +289,17 @@ def kinds_of(said, case):
     bench = re.match(rb"dakota: bench 0 failed at (.*)", said)
     if bench:
         yield f"bench failed at {bench[1].decode()}"
-    ended = re.match(rb"<<<<< Study (finished|aborted).*\n.*, (\d+) duplicate", said)
+    ended = re.match(rb"<<<<< Study (finished|aborted): (\w+).*\n.*, (\d+) duplicate", said)
     if ended:
         study, is_direct = case.study, not is_forked(case.study)
         name = study.method.name.split("_")[0] + (" to a final point" if "final_point" in study.method.values else "")
         name = name if is_direct else f"forked {name}"
         rule, _ = study.interface.rule
         told = f", {failures(study)} failed" if rule == "recover" and is_direct else ""
-        yield f"{name} {ended[1].decode()} under {rule}{told}"
-        if ended[2] != b"0":
+        word = ended[2].decode()
+        how = {"complete": "finished", "evaluation": "aborted"}.get(word, f"ended by {word}")
+        yield f"{name} {how} under {rule}{told}"
+        if ended[3] != b"0":
             yield f"{name} with duplicates"
         if case.is_resumed and any(it in case.run for it in READ_OPTIONS):
             yield f"resumed and {ended[1].decode()}"

@@ -18,7 +18,7 @@ Then contents of restart files, whole, cut and spoiled, are opened by the progra
 printed, the status and all files have to be alike. Then the order is looked at in which the restart file is written and
 synced, where a debugger tells it. Then come files that may not grow, a disk that is full, folders that are absent or
 read-only, a restart file that another run has, or that is the study or the table, and files of the greatest size.
-Before all these stand files that are worked out by hand.
+Before all these stand files and compass searches that are worked out by hand.
 
 PROGRAM may be the second reading, dakota.py. Scratch folders are made under TMPDIR; in a folder in memory a run takes
 less time. With --keep, the folders of what differs are kept there. Each part ends with a line. The exit status is 1 where
@@ -40,6 +40,7 @@ from kill import can_trace
 from kill_rounds import KillRounds
 from outside import Outside, Skipped
 from worked import FILES, faults_of_worked
+from worked_searches import CASES
 
 
 class Report:
@@ -109,7 +110,7 @@ def all_parts(arguments, scratch):
         print("commands can't be traced here, and are killed by time alone", flush=True)
     kills = KillRounds(program, studies, seed, traces, scratch, keep)
     report.end(f"whole: {len(studies)} studies", kills.wrong)
-    report.end(f"worked: {len(FILES)} files", [*faults_of_worked(program, studies[0], scratch)])
+    report.end(f"worked: {len(FILES)} files and {len(CASES)} compass searches", [*faults_of_worked(program, studies[0], scratch)])
     counts, wrong = all_rounds(kills, arguments.rounds, arguments.jobs)
     report.end(f"kills: {arguments.rounds} rounds, {counted(counts)}", wrong)
     child_part(report, arguments, traces, scratch)

@@ -2,7 +2,7 @@
 import random
 import re
 
-from dakota import attempt_of, evaluate, is_evaluated
+from dakota import attempt_of, evaluate
 from restart_file import Journal
 from run_texts import run_text
 from study import Refused, read_study
@@ -32,6 +32,13 @@ ROWS = [
     ("multidim_parameter_study partitions = 3 3", "lower_bounds = -2 -2 upper_bounds = 2 2", "failure_capture retry = 4"),
     ("multidim_parameter_study partitions = 24 16", "lower_bounds = -2 -2 upper_bounds = 4 2", "failure_capture retry = 3"),
     ("multidim_parameter_study partitions = 21 19", "lower_bounds = -2 -2 upper_bounds = 2 2", "failure_capture recover = 0"),
+    ("compass_search initial_delta = 1 threshold_delta = 0.25", "lower_bounds = -2 -2 upper_bounds = 2 2", ""),
+    ("compass_search initial_delta = 1 threshold_delta = 1e-3 max_function_evaluations = 400", "", ""),
+    ("compass_search initial_delta = 0.5 threshold_delta = 1e-9", "initial_point = -1.2 1", "failure_capture recover = 1e3"),
+    ("compass_search initial_delta = 0.1 threshold_delta = 1e-9", "initial_point = -1.2 1", "failure_capture retry = 7"),
+    ("compass_search initial_delta = 1 threshold_delta = 1e-8", "upper_bounds = 1e20 0.5", "failure_capture recover = 0.5"),
+    ("compass_search initial_delta = 3 threshold_delta = 0.1", "lower_bounds = 2*0 upper_bounds = 2*0", ""),
+    ("compass_search initial_delta = 1 threshold_delta = 1e-9 max_iterations = 37", "initial_point = 3 -4", ""),
 ]
 
 BY_CHANCE = 24
@@ -44,13 +51,12 @@ class Study:
     def __init__(self, text, beside=(), make=attempt_of):
         self.text, self.parts, self.beside = text, read_study(text), dict(beside)
         journal = Journal()
-        self.rows, self.failed = evaluate(self.parts, journal, make)
+        self.rows, self.ending = evaluate(self.parts, journal, make)
         self.entries = journal.book.entries
 
 
 def text_by_chance(number, seed):
-    """The text of a study with `direct` that is evaluated, whose table is the file `t.dat`, and which makes not too many
-    attempts."""
+    """The text of a study with `direct` whose table is the file `t.dat`, and which makes not too many attempts."""
     source = random.Random(f"{seed} study {number}")
     while True:
         text = run_text(source)
@@ -58,15 +64,15 @@ def text_by_chance(number, seed):
             study = read_study(text)
         except Refused:
             continue
-        is_direct = study.interface.is_direct and is_evaluated(study)
-        if is_direct and study.table == b"t.dat" and study.limit <= MOST_ATTEMPTS:
+        if study.interface.is_direct and study.table == b"t.dat" and study.limit <= MOST_ATTEMPTS:
             return text
 
 
 def all_studies(seed):
     studies = []
     for at, (method, variables, rule) in enumerate(ROWS):
-        responses = "response_functions" if at % 5 == 4 else "objective_functions"
+        are_any = at % 5 == 4 and not method.startswith("compass_search")
+        responses = "response_functions" if are_any else "objective_functions"
         studies.append(Study(TEXT.format(method=method, variables=variables, rule=rule, responses=responses).encode()))
     studies += [Study(text_by_chance(it, seed)) for it in range(BY_CHANCE)]
     return studies

@@ -1,6 +1,7 @@
 #!/usr/bin/env python3
 """A second reading of the rules, for comparison with the proved program: the same command line, restart file, children, table
 and summary."""
+import collections
 import functools
 import itertools
 import os
@@ -10,6 +11,7 @@ from children import BenchFailed, attempt_by_child
 from decimals import decimal_of, is_less, rosenbrock, text_of
 from restart import Entry, Full, RestartRefused, shape_of
 from restart_file import FileJournal, is_same_file, older_files, opened
+from search import searched
 from study import TEXT_LIMIT, Refused, read_study
 
 # The points of a study, each as a list of whole numbers of its unit
@@ -59,6 +61,7 @@ def grid_points(lower, upper, partitions):
 
 
 def points_of(study):
+    """Those of a study whose points are known from the beginning."""
     (name, values), (_, initial, lower, upper) = study.method, study.variables
     if name == "list_parameter_study":
         return listed_points(values["list_of_points"], len(initial))
@@ -71,12 +74,24 @@ def points_of(study):
     return points_by_step(initial, values["step_vector"], values["num_steps"])
 
 
+def at_once(points):
+    """Points that are one batch. Their values don't matter."""
+    yield [*points]
+    return "complete"
+
+
+def batches_of(study):
+    """The points of a study in batches, each of which is to be answered with the first values of its points; in the end comes
+    the word for why it finished."""
+    if study.method.name == "compass_search":
+        return searched(study.variables, study.method)
+    return at_once(points_of(study))
+
+
 # A run
 
-
-def is_evaluated(study):
-    """Whether a run of this study is there so far."""
-    return study.method.name != "compass_search"
+# How a study ended: why it finished, or how many attempts the point had that has no values.
+Ending = collections.namedtuple("Ending", "why attempts", defaults=(None, None))
 
 
 def attempt_of(study, row, point, attempt, kept=()):
@@ -99,23 +114,49 @@ def under_rule(rule, given, say):
     return tuple(given) if rule == "recover" else None, most
 
 
+class Run:
+    """The rows of a study so far, each a point and its values. An attempt is made, and appended to the journal, where that doesn't
+    have it."""
+
+    def __init__(self, study, journal, make):
+        self.study, self.journal, self.make, self.rows = study, journal, make, []
+
+    def said(self, point, attempt):
+        """What an attempt says of the point of the next row."""
+        said = self.journal.book.said
+        if attempt > len(said.get(point, [])):
+            self.journal.append(Entry(point, attempt, self.make(self.study, len(self.rows) + 1, point, attempt)))
+        return said[point][attempt - 1]
+
+    def evaluated(self, batch):
+        """Adds a row for each point, up to the first one without values; how many attempts this one had, or none."""
+        for units in batch:
+            point = tuple(decimal_of(it, self.study.unit) for it in units)
+            values, attempts = under_rule(*self.study.interface.rule, functools.partial(self.said, point))
+            if values is None:
+                return attempts
+            self.rows.append((*point, *values))
+        return None
+
+    def end(self):
+        """Evaluates batch after batch, and tells how that ended."""
+        batches, first, answers = batches_of(self.study), len(self.study.variables.labels), None
+        while True:
+            try:
+                batch = batches.send(answers)
+            except StopIteration as finished:
+                return Ending(why=finished.value)
+            attempts = self.evaluated(batch)
+            if attempts is not None:
+                return Ending(attempts=attempts)
+            answers = [row[first] for row in self.rows[-len(batch) :]]
+
+
 def evaluate(study, journal, make=attempt_of):
-    """The rows, each a point and its values, up to the first point without values, and how many attempts it had; none where
-    each has some. An attempt is made, and appended to the journal, where that doesn't have it."""
-    rows = []
-    for row, units in enumerate(points_of(study), 1):
-        point = tuple(decimal_of(it, study.unit) for it in units)
-
-        def say(attempt):
-            if attempt > len(journal.book.said.get(point, [])):
-                journal.append(Entry(point, attempt, make(study, row, point, attempt)))
-            return journal.book.said[point][attempt - 1]
-
-        values, attempts = under_rule(*study.interface.rule, say)
-        if values is None:
-            return rows, attempts
-        rows.append((*point, *values))
-    return rows, None
+    """The rows up to the first point without values, and how the study ended."""
+    run = Run(study, journal, make)
+    ending = run.end()
+    return run.rows, ending
 
 
 def table(study, rows):
@@ -141,11 +182,12 @@ def best_lines(study, rows):
     ]
 
 
-def summary(study, rows, attempts):
-    ending = "finished: complete" if attempts is None else f"aborted: evaluation {len(rows) + 1} failed, attempts {attempts}"
+def summary(study, rows, ending):
+    why, attempts = ending
+    ended = f"finished: {why}" if why else f"aborted: evaluation {len(rows) + 1} failed, attempts {attempts}"
     fresh = len({row[: len(study.variables.labels)] for row in rows})
     lines = [
-        f"Study {ending}",
+        f"Study {ended}",
         f"Function evaluation summary: {len(rows)} total ({fresh} new, {len(rows) - fresh} duplicate)",
         *best_lines(study, rows),
     ]
@@ -230,7 +272,7 @@ def run_study(study, name, restart, is_fresh):
     try:
         with opened(restart, is_fresh, name) as file:
             make = functools.partial(attempt_of, kept=(name, restart, *older_files(restart)))
-            rows, attempts = evaluate(study, FileJournal(file, shape_of(study), is_fresh), make)
+            rows, ending = evaluate(study, FileJournal(file, shape_of(study), is_fresh), make)
     except RestartRefused as refused:
         return f"dakota: restart refused: {refused}\n", 5
     except OSError:
@@ -244,7 +286,7 @@ def run_study(study, name, restart, is_fresh):
             write_table(study.table.decode(), (name, restart, *older_files(restart)), table(study, rows))
     except OSError:
         return "dakota: table not written\n", 9
-    return summary(study, rows, attempts), 0 if attempts is None else 1
+    return summary(study, rows, ending), 0 if ending.why else 1
 
 
 def run(words):
@@ -259,8 +301,6 @@ def run(words):
     if is_check:
         counts = len(study.variables.labels), len(study.responses.labels), study.limit
         return "study accepted: variables {}, responses {}, evaluations at most {}\n".format(*counts), 0
-    if not is_evaluated(study):
-        return refusal("Unsupported")
     restart = files.get("read") or files.get("write", "dakota.rst")
     return run_study(study, files["input"], restart, "read" not in files)
 

@@ -3,13 +3,13 @@
 
     generated_files.py PROGRAM [--evaluations N] [--rows R] [--stops N] [--seed S] [--keep FOLDER]
 
-The studies are lists of points, mostly with R rows each, until they come to N evaluations. Their numbers, labels, forms, names
-of files and tags are by chance, and so is what a child leaves: good and bad results files, none, and too long ones. By a
-second reading in Python it is known which bytes each parameters file has to have, how the driver is called, and which values
-each row gets, or that it fails and is recovered. So are the table, the summary, the restart file, what children print, and
-which files are left.
+The studies are lists of points, mostly with R rows each, and compass searches of at most R rows, which goes by what their
+children leave, until they come to N evaluations. Their numbers, labels, forms, names of files and tags are by chance, and so
+is what a child leaves: good and bad results files, none, and too long ones. By a second reading in Python it is known which
+bytes each parameters file has to have, how the driver is called, and which values each row gets, or that it fails and is
+recovered. So are the table, the summary, the restart file, what children print, and which files are left.
 
-Then come runs that stop with status 8 at some row: a folder stands in the place of the results file or of the parameters file,
+Then come runs that stop with status 8 at some evaluation: a folder stands in the place of the results file or of the parameters file,
 or the driver is gone. They stop so again when they are resumed, and once that is mended they end as if nothing had been.
 
 PROGRAM may be the second reading, dakota.py. Scratch folders are made under TMPDIR. With --keep, the folders of what differs
@@ -49,10 +49,15 @@ def lay_driver(folder):
     os.chmod(os.path.join(folder, DRIVER), 0o755)
 
 
-def lay_left(folder, study, row):
-    """Lays the results file that the call of a row is to leave, if any."""
-    if study.files[row - 1] is not None:
-        write(folder, f"{LEFT}/{row}", study.files[row - 1])
+def lay_left(folder, study, call):
+    """Lays the results file that a call is to leave, if any."""
+    if study.files[call - 1] is not None:
+        write(folder, f"{LEFT}/{call}", study.files[call - 1])
+
+
+def names_at(study, call):
+    """The names of the parameters file and the results file of a call."""
+    return names_of(study.parts.interface, study.numbers[call - 1])
 
 
 def lay(folder, study):
@@ -62,21 +67,22 @@ def lay(folder, study):
     write(folder, STUDY, study.text)
     write(folder, f"{SEEN}/calls", b"0\n")
     lay_driver(folder)
-    for row in range(1, len(study.files) + 1):
-        lay_left(folder, study, row)
-        for name in map(bytes.decode, names_of(study.parts.interface, row)):
+    for call in range(1, len(study.files) + 1):
+        lay_left(folder, study, call)
+        for name in map(bytes.decode, names_at(study, call)):
             write(folder, name, b"77 stale\n" * len(study.parts.responses.labels))
 
 
-def point_of(study, row):
-    return study.entries[row - 1].point
+def parameters_at(study, call):
+    """The bytes of the parameters file of a call."""
+    return text_of_row(study.parts, study.numbers[call - 1], study.entries[call - 1].point)
 
 
-def words_of(study, row):
+def words_of(study, call):
     """What the driver is to tell of its words: those behind the script's name, and the names of the two files."""
     words = study.parts.interface.driver.split()
     named = [at for at, it in enumerate(words) if it.endswith(DRIVER.encode())]
-    return b"".join(it + b"\n" for it in [*words[named[0] + 1 :], *names_of(study.parts.interface, row)])
+    return b"".join(it + b"\n" for it in [*words[named[0] + 1 :], *names_at(study, call)])
 
 
 def printed(calls):
@@ -88,9 +94,9 @@ def saved(study):
     """The files of attempts that stand in the end."""
     files = {}
     if "file_save" in study.parts.interface.options:
-        for row, content in enumerate(study.files, 1):
-            parameters, results = map(bytes.decode, names_of(study.parts.interface, row))
-            files[parameters] = text_of_row(study.parts, row, point_of(study, row))
+        for call, content in enumerate(study.files, 1):
+            parameters, results = map(bytes.decode, names_at(study, call))
+            files[parameters] = parameters_at(study, call)
             files[results] = content
     return {name: content for name, content in files.items() if content is not None}
 
@@ -106,14 +112,13 @@ def differ(what, found, wanted):
     yield f"{what}: from byte {at} {found[at : at + 80]!r}, and not {wanted[at : at + 80]!r}"
 
 
-def faults_of_calls(folder, study, rows):
-    """What is wrong with the parameters files and the words that the driver saw at these rows."""
-    for row in rows:
-        wanted = text_of_row(study.parts, row, point_of(study, row))
-        yield from differ(f"row {row}, parameters", read(folder, f"{SEEN}/{row}"), wanted)
-        yield from differ(f"row {row}, words", read(folder, f"{SEEN}/{row}.words"), words_of(study, row))
-    if read(folder, f"{SEEN}/calls") != b"%d\n" % rows[-1]:
-        yield f"{read(folder, f'{SEEN}/calls')} calls, and not {rows[-1]}"
+def faults_of_calls(folder, study, calls):
+    """What is wrong with the parameters files and the words that the driver saw at these calls."""
+    for call in calls:
+        yield from differ(f"call {call}, parameters", read(folder, f"{SEEN}/{call}"), parameters_at(study, call))
+        yield from differ(f"call {call}, words", read(folder, f"{SEEN}/{call}.words"), words_of(study, call))
+    if read(folder, f"{SEEN}/calls") != b"%d\n" % calls[-1]:
+        yield f"{read(folder, f'{SEEN}/calls')} calls, and not {calls[-1]}"
 
 
 def files_beside(folder):
@@ -124,11 +129,11 @@ def files_beside(folder):
 
 
 def faults_of_end(folder, study, ran, first):
-    """What is wrong with a study that is done, whose last run made the attempts from this row on."""
+    """What is wrong with a study that is done, whose last run made the attempts from this one on."""
     count = len(study.entries)
     if ran.status != 0:
         yield f"status {ran.status}"
-    yield from differ("standard output", ran.said, summary(study.parts, study.rows, None).encode())
+    yield from differ("standard output", ran.said, summary(study.parts, study.rows, study.ending).encode())
     yield from differ("standard error", ran.told, printed(range(first, count + 1)))
     wanted = table(study.parts, study.rows).encode() if study.parts.table is not None else None
     yield from differ("the table", read(folder, TABLE), wanted)
@@ -153,19 +158,19 @@ def faults_of_study(program, study, folder):
 
 
 class Stop:
-    """A run that stops at a row, since something isn't as the program needs it."""
+    """A run that stops at a call, since something isn't as the program needs it."""
 
-    def __init__(self, program, study, folder, row):
-        self.program, self.study, self.folder, self.row = program, study, folder, row
-        self.parameters, self.results = map(bytes.decode, names_of(study.parts.interface, row))
+    def __init__(self, program, study, folder, call):
+        self.program, self.study, self.folder, self.call = program, study, folder, call
+        self.parameters, self.results = map(bytes.decode, names_at(study, call))
 
     def make(self, name):
         os.mkdir(os.path.join(self.folder, name))
 
     def again(self):
-        """Has the driver do its call of the row once more."""
-        write(self.folder, f"{SEEN}/calls", b"%d\n" % (self.row - 1))
-        lay_left(self.folder, self.study, self.row)
+        """Has the driver do its call once more."""
+        write(self.folder, f"{SEEN}/calls", b"%d\n" % (self.call - 1))
+        lay_left(self.folder, self.study, self.call)
 
     def faults_of_run(self, what, step, calls, entries, resumed):
         """Of a run that is to stop at a step, after these calls, with so many entries in its restart file."""
@@ -179,7 +184,7 @@ class Stop:
 
     def faults(self, first, second, entries, mend):
         """Of runs that stop at a first and a second step, and of one that doesn't, once that is mended."""
-        yield from self.faults_of_run("stopped", first, range(1, self.row + 1), entries, False)
+        yield from self.faults_of_run("stopped", first, range(1, self.call + 1), entries, False)
         yield from self.faults_of_run("stopped again", second, (), entries, True)
         mend()
         ran = run(self.program, self.folder, True)
@@ -193,27 +198,29 @@ class Stop:
     def at_results(self):
         """A folder in the place of the results file."""
         lay(self.folder, self.study)
-        if self.study.files[self.row - 1] is not None:
-            os.remove(os.path.join(self.folder, f"{LEFT}/{self.row}"))
-        self.make(f"{LEFT}/{self.row}")
-        return self.faults("fetch", "clear", self.row - 1, lambda: self.remove(self.results))
+        if self.study.files[self.call - 1] is not None:
+            os.remove(os.path.join(self.folder, f"{LEFT}/{self.call}"))
+        self.make(f"{LEFT}/{self.call}")
+        return self.faults("fetch", "clear", self.call - 1, lambda: self.remove(self.results))
 
     def at_parameters(self):
         """A folder in the place of the parameters file, of a study that doesn't save its files."""
         lay(self.folder, self.study)
-        self.make(f"{LEFT}/{self.row}.in")
-        return self.faults("clear after", "lay", self.row - 1, lambda: self.remove(self.parameters))
+        self.make(f"{LEFT}/{self.call}.in")
+        return self.faults("clear after", "lay", self.call - 1, lambda: self.remove(self.parameters))
 
     def at_driver(self):
-        """A driver that is gone from the next row on."""
+        """A driver that is gone from the next call on."""
         lay(self.folder, self.study)
-        write(self.folder, f"{LEFT}/{self.row}.gone", b"")
-        return self.faults("run", "run", self.row, lambda: lay_driver(self.folder))
+        write(self.folder, f"{LEFT}/{self.call}.gone", b"")
+        return self.faults("run", "run", self.call, lambda: lay_driver(self.folder))
 
 
 def stop_by_chance(source, program, folder):
-    """The name of a way to stop, and what is wrong then."""
-    study = generated(source, source.randrange(2, 9), ["./driver.sh", "./driver.sh a -b"])
+    """The name of a way to stop, the study, and what is wrong then."""
+    study = None
+    while study is None or len(study.files) < 2:
+        study = generated(source, source.randrange(2, 9), ["./driver.sh", "./driver.sh a -b"])
     stop = Stop(program, study, folder, source.randrange(1, len(study.files)))
     ways = [stop.at_results, stop.at_driver]
     if "file_save" not in study.parts.interface.options:

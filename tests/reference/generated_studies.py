@@ -1,4 +1,4 @@
-"""Studies with children by chance, and for each of their rows a results file that its child is to leave."""
+"""Studies with children by chance, and for each of their attempts a results file that its child is to leave."""
 import collections
 
 from dakota import evaluate
@@ -40,8 +40,8 @@ cp -- "$1" "seen/$call"
 exit $((call % 3))
 """
 TEXT = """{table}
-method list_parameter_study list_of_points = {points}
-variables continuous_design = {variables} descriptors = {variable_labels}
+method {method}
+variables continuous_design = {variables} {others} descriptors = {variable_labels}
 interface analysis_drivers = {driver} fork {interface} failure_capture recover = {recovered}
 responses {kind} = {responses} descriptors = {response_labels}
 """
@@ -62,9 +62,14 @@ def grid_number(random, top):
     return decimal_of(random.choice([1, -1]) * mantissa, last)
 
 
+def some_top(random):
+    """The greatest power of ten of a study's numbers."""
+    return random.choice([0, 0, 1, 5, 14, 15, 28, 29, 99, 100, -1, -99, -100, 400, -372, random.randrange(-372, 401)])
+
+
 def distinct_points(random, count, width):
     """So many points, of which each has another number than the others somewhere."""
-    top, found = random.choice([0, 0, 1, 5, 14, 15, 28, 29, 99, 100, -1, -99, -100, 400, -372, random.randrange(-372, 401)]), {}
+    top, found = some_top(random), {}
     while len(found) < count:
         found[tuple(grid_number(random, top) for _ in range(width))] = None
     return [*found]
@@ -141,38 +146,70 @@ def interface_words(random):
     return " ".join(words)
 
 
-# A study's text, its parts, the results file of each row, and what comes of it: its rows and its attempts.
-Generated = collections.namedtuple("Generated", "text parts files rows entries")
+def number_texts(decimals):
+    return " ".join(map(number_text, decimals))
+
+
+def list_words(random, count, width):
+    """The words of a list of so many points, and none for `variables`."""
+    points = distinct_points(random, count, width)
+    return f"list_parameter_study list_of_points = {number_texts(it for point in points for it in point)}", ""
+
+
+def step_length(random, top):
+    """A number above zero."""
+    mantissa, exponent = grid_number(random, top)
+    return (abs(mantissa), exponent) if mantissa else (1, top - 28)
+
+
+def search_words(random, count, width):
+    """The words of a compass search of at most so many rows, and those for `variables`."""
+    top = some_top(random)
+    initial = number_texts(grid_number(random, top) for _ in range(width))
+    threshold = random.choice([(1, top - 28), (1, top - 28), step_length(random, top)])
+    method = f"compass_search initial_delta = {number_text(step_length(random, top))} threshold_delta = {number_text(threshold)}"
+    sides = [f"{it} = {initial}" for it in ("lower_bounds", "upper_bounds") if random.random() < 0.1]
+    return f"{method} max_function_evaluations = {count}", " ".join([f"initial_point = {initial}", *sides])
+
+
+# A study's text, its parts, the results file that each of its attempts leaves, the row for which each is made, and what comes of
+# it: its rows, how it ends and its attempts.
+Generated = collections.namedtuple("Generated", "text parts files numbers rows ending entries")
 
 
 def generated(random, count, words=WORDS):
-    """A study of so many rows, each with a point of its own; of fewer where the points have many numbers."""
+    """A study of so many rows, or of fewer where the points have many numbers. Each row of a list has a point of its own; a
+    compass search may end before."""
+    is_search = random.random() < 0.3
     variables = random.choice([1, 2, 2, 3, 3, 10, 40, 100])
-    responses = random.choice([1, 1, 1, 2, 2, 3, 5])
-    points = distinct_points(random, min(count, max(2, MOST_NUMBERS // variables)), variables)
+    responses = 1 if is_search else random.choice([1, 1, 1, 2, 2, 3, 5])
+    method, others = (search_words if is_search else list_words)(random, min(count, max(2, MOST_NUMBERS // variables)), variables)
     text = TEXT.format(
         table=random.choice([TABLE, TABLE, TABLE, ""]),
-        points=" ".join(number_text(it) for point in points for it in point),
+        method=method,
         variables=variables,
+        others=others,
         variable_labels=quoted_labels(random, variables),
         driver=quoted(random, random.choice(words)),
         interface=interface_words(random),
         recovered=" ".join(f"{random.randrange(-99, 99)}e{random.randrange(-9, 9)}" for _ in range(responses)),
-        kind=random.choice(["objective_functions", "response_functions"]),
+        kind="objective_functions" if is_search else random.choice(["objective_functions", "response_functions"]),
         responses=responses,
         response_labels=quoted_labels(random, responses),
     ).encode()
-    parts, files = read_study(text), [left_file(random, responses) for _ in points]
-    return Generated(text, parts, files, *came_of(parts, files))
+    parts = read_study(text)
+    return Generated(text, parts, *came_of(random, parts))
 
 
-def came_of(parts, files):
-    """The rows and the attempts of a study whose rows have these results files."""
-    journal, count = Journal(), len(parts.responses.labels)
+def came_of(random, parts):
+    """The results files of a study's attempts, by chance, and what comes of them."""
+    journal, count, files, numbers = Journal(), len(parts.responses.labels), [], []
 
     def read(study, row, point, attempt):
-        values = read_results(files[row - 1], count)
+        files.append(left_file(random, count))
+        numbers.append(row)
+        values = read_results(files[-1], count)
         return None if values is None else tuple(values)
 
-    rows, _ = evaluate(parts, journal, read)
-    return rows, journal.book.entries
+    rows, ending = evaluate(parts, journal, read)
+    return files, numbers, rows, ending, journal.book.entries

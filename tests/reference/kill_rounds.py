@@ -78,9 +78,9 @@ def whole_of(program, study, folder, traces):
 
 def faults_of_whole(study, whole):
     """What is wrong with a run that isn't interrupted."""
-    if whole.ran.status != (0 if study.failed is None else 1):
+    if whole.ran.status != (0 if study.ending.why else 1):
         yield f"status {whole.ran.status}, {whole.ran.said!r}"
-    if whole.ran.said != dakota.summary(study.parts, study.rows, study.failed).encode():
+    if whole.ran.said != dakota.summary(study.parts, study.rows, study.ending).encode():
         yield f"standard output {whole.ran.said!r}"
     if whole.table != (None if study.parts.table is None else dakota.table(study.parts, study.rows).encode()):
         yield "another table than by the second reading"

@@ -2,9 +2,9 @@
 """Checks that the manual has an entry for each keyword and each refused word of the program's table, and the examples of
 examples/, by the second reading and by the program: manual.py [PROGRAM].
 
-Each example is accepted by `-check` with the line that stands here. Each that runs so far ends with the table and the
-summary that stand beside it, NAME.table and NAME.summary, which were written by the second reading, and well but for one
-that is aborted; each other one is refused. longer.in is run by resume.sh, which ends with the line that stands here.
+Each example is accepted by `-check` with the line that stands here. Each ends with the table and the summary that stand
+beside it, NAME.table and NAME.summary, which were written by the second reading, and well but for one that is aborted.
+longer.in alone is run by resume.sh, which ends with the line that stands here.
 
 The program leaves a restart file of the size that stands here, and a run that goes on with it ends alike, leaves it as it
 is, and takes its values from it. What the manual says of copies, of a file that is cut and of its refusals is checked too.
@@ -49,6 +49,7 @@ RUN = {
     "final.in": 27 + 11 * 60,
     "recover.in": 27 + 2 * 60 + 2 * 42,
     "retry.in": 27 + 60 + 3 * 42,
+    "compass.in": 27 + 9 * 60,
 }
 ABORTED = {"retry.in"}
 RESTART = "dakota.rst"
@@ -97,8 +98,6 @@ def ran(program, *words, files=()):
 
 def wanted_of(name):
     """What a run of an example is to do."""
-    if name not in RUN:
-        return 3, b"dakota: study refused: Unsupported at bytes 0..0\n", {}
     front = os.path.join(EXAMPLES, name.removesuffix(".in"))
     table = re.search(rb"""tabular_data_file = ['"](.*?)['"]""", read(f"{front}.in")).group(1).decode()
     return int(name in ABORTED), read(f"{front}.summary"), {table: read(f"{front}.table")}
@@ -130,7 +129,7 @@ def faults_of_examples(program):
         study = os.path.join(EXAMPLES, name)
         line = "study accepted: variables {}, responses {}, evaluations at most {}\n".format(*counts)
         yield from told_apart(f"{program} -check {name}", ran(program, "-check", "-i", study), (0, line.encode(), {}))
-        if name in ACCEPTED and name != "longer.in":
+        if name in RUN:
             status, printed, files = ran(program, "-i", study)
             files.pop(RESTART, None)
             yield from told_apart(f"{program} {name}", (status, printed, files), wanted_of(name))

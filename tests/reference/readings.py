@@ -5,7 +5,8 @@ In a text with a fault, `[` and `]` stand around the fault's span, and are taken
 """
 import sys
 
-from dakota import evaluate, points_of, summary
+import worked_searches
+from dakota import evaluate, points_of, summary, table
 from decimals import decimal_of, number_of, text_of
 from restart_file import Journal
 from study import Refused, read_study
@@ -231,10 +232,18 @@ def points(text):
 def ended(text):
     """The values of a study's rows, how it ended, and its best row."""
     study = read_study(text)
-    rows, attempts = evaluate(study, Journal())
-    end, _, best, *_ = summary(study, rows, attempts).splitlines()
+    rows, ending = evaluate(study, Journal())
+    end, _, best, *_ = summary(study, rows, ending).splitlines()
     values = " ".join(text_of(it[-1]) for it in rows)
     return values, end.removeprefix("<<<<< Study "), int(best.removeprefix("<<<<< Best evaluation: "))
+
+
+def faults_of_searches():
+    """What is wrong with the compass searches that are worked out by hand."""
+    for case in worked_searches.CASES:
+        study = read_study(worked_searches.text_of(case))
+        rows, ending = evaluate(study, Journal())
+        yield from worked_searches.faults_of(case, summary(study, rows, ending), table(study, rows))
 
 
 def failed():
@@ -258,6 +267,7 @@ def failed():
         number = number_of(text.encode())
         if (number and text_of(number)) != wanted:
             yield f"{text}: {number}, and not {wanted}"
+    yield from faults_of_searches()
     if outcome(b" " * 1_048_577) != ("TooLong", 0, 0) or outcome(b"'" * 1_048_577) != ("TooLong", 0, 0):
         yield "a text that is too long"
 

@@ -138,9 +138,9 @@ def bounds_items(random, exponent, lower, upper):
     return [Item(word, number_texts(random, it, exponent)) for word, it in items if it]
 
 
-def begun(random, exponent, point, is_unit=False):
+def begun(random, exponent, point, is_unit=False, sides=None):
     """An initial point, and bounds that it lies between; the unit may be that of the numbers, by a bound that is far."""
-    lower, upper = bounds(random, point) if random.random() < 0.3 else (None, None)
+    lower, upper = sides or (bounds(random, point) if random.random() < 0.3 else (None, None))
     if is_unit:
         far_point = anchor(random)
         if random.random() < 0.5:
@@ -220,7 +220,45 @@ def in_a_grid(random):
     return [Item("multidim_parameter_study"), *items], others
 
 
-KINDS = [by_step, to_final, to_final, centered, centered, in_a_list, in_a_list, in_a_grid, in_a_grid]
+def side(random, point, delta, sign):
+    """Bounds on one side of a point: at it, or about a step or some steps away; or none."""
+    far = [0, 0, delta // 2, max(0, delta - 1), delta, 3 * delta, delta * random.randrange(20)]
+    return [it + sign * random.choice(far) for it in point] if random.random() < 0.4 else None
+
+
+def threshold_for(random, delta):
+    """A threshold that is reached after some halvings, or at once."""
+    halved = delta // 2 ** random.choice([0, 1, 1, 2, 3, 4, random.randrange(12), random.randrange(100)])
+    return random.choice([max(1, halved)] * 8 + [1, 1, delta + 1, 3 * delta])
+
+
+def limits(random):
+    """How many iterations and evaluations there are at most, where that is written."""
+    items = []
+    if random.random() < 0.3:
+        items.append(Item("max_iterations", [whole_text(random, random.choice([0, 1, 2, 3, random.randrange(30), 10000]))]))
+    if random.random() < 0.7:
+        count = random.choice([1, 2, 3, 4, 5, 6, random.randrange(1, 30), random.randrange(1, 300), 300, random.randrange(1, 3000)])
+        items.append(Item("max_function_evaluations", [whole_text(random, count)]))
+    return items
+
+
+def by_search(random):
+    """A compass search, also one of few units, or whose step may be of more digits than its point."""
+    exponent, start, step = start_and_step(random)
+    by = random.choice([0, 0, 1, 3, 6, 12])
+    exponent, start, delta = exponent - by, [it * 10**by for it in start], (abs(random.choice(step)) or 1) * 10**by
+    is_unit = random.random() < 0.2
+    if is_unit:
+        exponent, start = random.choice([0, 0, -1, -3]), [random.randrange(-9, 10) for _ in range(2)]
+        delta = random.choice([1, 2, 3, 5, 7, random.randrange(1, 100)])
+    sides = [start, start] if random.random() < 0.05 else [side(random, start, delta, sign) for sign in (-1, 1)]
+    deltas = [number_texts(random, [it], exponent) for it in (delta, threshold_for(random, delta))]
+    items = [Item(word, it) for word, it in zip(("initial_delta", "threshold_delta"), deltas)]
+    return [Item("compass_search"), *items, *limits(random)], begun(random, exponent, start, is_unit, sides)
+
+
+KINDS = [by_step, to_final, to_final, centered, centered, in_a_list, in_a_list, in_a_grid, in_a_grid, by_search, by_search, by_search]
 
 
 def recovered(random):
@@ -251,7 +289,9 @@ def interface_that_runs(random):
 
 def run_text(random):
     """The bytes of a study's file."""
-    method, others = random.choice(KINDS)(random)
+    kind = random.choice(KINDS)
+    method, others = kind(random)
+    of_responses = ["objective_functions"] * 2 + ["response_functions"] * (kind != by_search)
     table = [Item("tabular_data"), Item("tabular_data_file", ["'t.dat'"])]
     descriptors = [Item("descriptors", ["'x1'", "'x2'"])] if random.random() < 0.5 else []
     blocks = [
@@ -259,6 +299,6 @@ def run_text(random):
         Block("method", method),
         Block("variables", [Item("continuous_design", ["2"]), *others, *descriptors]),
         interface_that_runs(random),
-        responses(random, random.choice(["objective_functions", "objective_functions", "response_functions"]), 1),
+        responses(random, random.choice(of_responses), 1),
     ]
     return written(random, shuffled(random, Plan(2, 1, blocks)).tokens()).encode()

@@ -159,7 +159,7 @@ def method_items(random, name, n, numbers):
     if random.random() < 0.5:
         items.append(Item("max_iterations", [whole_text(random, random.choice([0, 1, 50, 10000]))]))
     if random.random() < 0.5:
-        items.append(Item("max_function_evaluations", [whole_text(random, random.choice([1, 50, 30000]))]))
+        items.append(Item("max_function_evaluations", [whole_text(random, random.choice([1, 5, 50, 200, 30000]))]))
     return items
 
 

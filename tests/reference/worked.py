@@ -1,6 +1,11 @@
-"""Restart files that are worked out by hand, byte by byte, for the study of docs/MANUAL.md with its three points."""
+"""Restart files that are worked out by hand, byte by byte, for the study of docs/MANUAL.md with its three points; and runs of
+compass searches that are worked out by hand."""
+import tempfile
+
+import worked_searches
 from content_rounds import faults_of, opened_by_both
-from kill import Ran
+from kill import Ran, run
+from kill_rounds import STUDY, TABLE, read, write
 from restart import Entry, RestartRefused, Shape, file_bytes, judge, written, writes_of_birth, writes_of_entry
 
 SHAPE = Shape(["x1", "x2"], ["obj_fn"])
@@ -91,8 +96,21 @@ def faults_of_file(program, study, content, verdict, scratch):
         yield f"status {ours[0].status}, {ours[0].said!r}, and not {verdict}"
 
 
+def faults_of_search(program, case, folder):
+    """What the program does wrong with a compass search, and with one that finds all its attempts made."""
+    write(folder, STUDY, worked_searches.text_of(case))
+    for words in (["-i", STUDY], ["-i", STUDY, "-r", "dakota.rst"]):
+        ran = run(program, words, folder)
+        if ran.status != 0:
+            yield f"compass search {case.method} {case.variables}: status {ran.status}"
+        yield from worked_searches.faults_of(case, ran.said.decode(), (read(folder, TABLE) or b"").decode())
+
+
 def faults_of_worked(program, study, scratch):
-    """What is wrong with the writing, and then with each file."""
+    """What is wrong with the writing, and then with each file and each compass search."""
     yield [*faults_of_writing()]
     for content, verdict in FILES:
         yield [f"worked file {content.hex()}: {it}" for it in faults_of_file(program, study, content, verdict, scratch)]
+    for case in worked_searches.CASES:
+        with tempfile.TemporaryDirectory(dir=scratch) as folder:
+            yield [*faults_of_search(program, case, folder)]
