@@ -11,7 +11,7 @@ import struct
 import sys
 from decimal import Decimal, Inexact, Overflow
 
-from study import HUNDRED, ONE, Study, grid_points, points_by_step
+from study import HUNDRED, ONE, Study, points_of
 
 MAGIC = b"DKRSTv1\n"
 MOST_BYTES = 1 << 28
@@ -53,15 +53,18 @@ def value_at(x1, x2):
 
 def file_of(path, value_of=value_at):
     """The restart file that a run of the study at a path leaves, whose points have these values or none."""
-    study = Study(path)
-    parts, made = [header_of([b"x1", b"x2"], [b"obj_fn"])], set()
-    for point in grid_points(study) if study.has("partitions") else points_by_step(study):
-        if point in made:
-            continue
-        made.add(point)
-        value = value_of(*point)
-        parts.append(record_of(point, value))
-        if value is None and not study.has("recover"):
+    study, made, parts, answer = Study(path), {}, [header_of([b"x1", b"x2"], [b"obj_fn"])], None
+    recover, points = study.numbers("recover", 1)[0] if study.has("recover") else None, points_of(study)
+    while True:
+        try:
+            point = tuple(points.send(answer))
+        except StopIteration:
+            break
+        if point not in made:
+            made[point] = value_of(*point)
+            parts.append(record_of(point, made[point]))
+        answer = recover if made[point] is None else made[point]
+        if answer is None:
             break
     return b"".join(parts) + CLOSED
 

@@ -1,5 +1,5 @@
 #!/bin/sh
-# Compares the proved program with Python and C on four studies that it runs, with C on the restart file that it keeps, with
+# Compares the proved program with Python and C on five studies that it runs, with C on the restart file that it keeps, with
 # Python on one that it goes on with and on a study that it reads, with C on the files of attempts, on attempts with children
 # and on a study over children, and on this one with xargs, parallel and a loop in Python: run.sh [RUNS]. With --most in the
 # place of RUNS it runs a study of 100,000 evaluations over children, once, and nothing else. README.md beside it says more.
@@ -49,7 +49,7 @@ if [ -n "$compiled" ]; then
     "$here/build.sh" || exit 1
 fi
 if [ -n "$memory" ]; then
-    for study in study.in recover.in grid.in long.in; do
+    for study in study.in recover.in grid.in long.in compass.in; do
         python3 "$here/measure.py" "$runs" "$memory" "$here/$study" "$program" "$here/study.py" \
             ${compiled:+"$compiled/study" "$compiled/journal"} || exit 1
     done

@@ -1,7 +1,7 @@
 #!/usr/bin/env python3
 """The same study by Python's decimal, for a comparison of times: study.py FILE writes t.dat and prints the summary.
 
-It reads the numbers of a vector study by steps or of a grid that is known to be good, and refuses nothing.
+It reads the numbers of a vector study by steps, of a grid or of a compass search that is known to be good, and refuses nothing.
 """
 import sys
 from decimal import MAX_EMAX, MIN_EMIN, Context, Decimal, Inexact, Overflow, setcontext
@@ -57,19 +57,60 @@ def grid_points(study):
             yield x1, x2
 
 
+def polls_about(x1, x2, delta, lower, upper):
+    """The points on and back along each variable that keep the bounds."""
+    for point in ((x1 + delta, x2), (x1 - delta, x2), (x1, x2 + delta), (x1, x2 - delta)):
+        if all(low <= it <= high for low, it, high in zip(lower, point, upper)):
+            yield point
+
+
+def search_points(study):
+    """The points of a compass search; each is to be answered with its value. In the end it says why it ended."""
+    deltas, initial = study.numbers("initial_delta", 1) + study.numbers("threshold_delta", 1), study.numbers("initial_point")
+    bounds = study.numbers("lower_bounds"), study.numbers("upper_bounds")
+    unit = max(it.adjusted() for it in [*deltas, *initial, *bounds[0], *bounds[1]] if it) - 28
+    (delta, threshold), x, lower, upper = ([int(it.scaleb(-unit)) for it in some] for some in (deltas, initial, *bounds))
+    (left, most), rows = (int(study.numbers(it, 1)[0]) for it in ("max_iterations", "max_function_evaluations")), 1
+    least = yield [Decimal(it).scaleb(unit) for it in x]
+    while delta >= threshold and left:
+        polls, best = [*polls_about(*x, delta, lower, upper)], None
+        rows, left = rows + len(polls), left - 1
+        if rows > most:
+            return "max_function_evaluations"
+        for poll in polls:
+            value = yield [Decimal(it).scaleb(unit) for it in poll]
+            if value < least:
+                best, least = poll, value
+        delta, x = (delta // 2, x) if best is None else (delta, best)
+    return "threshold_delta" if delta < threshold else "max_iterations"
+
+
+def points_of(study):
+    """The points of a study. Those of a search are to be answered with their values, and say in the end why it ended."""
+    if study.has("initial_delta"):
+        return search_points(study)
+    return grid_points(study) if study.has("partitions") else points_by_step(study)
+
+
 def main():
     study = Study(sys.argv[1])
-    all_points = grid_points(study) if study.has("partitions") else points_by_step(study)
+    all_points, value = points_of(study), None
     recover = study.numbers("recover", 1)[0] if study.has("recover") else None
-    rows, complete, best, least, points = [], True, 0, None, set()
+    rows, best, least, points = [], 0, None, set()
     lines = ["%eval_id interface x1 x2 obj_fn\n"]
-    for at, (x1, x2) in enumerate(all_points):
+    while True:
+        at = len(rows)
+        try:
+            x1, x2 = all_points.send(value)
+        except StopIteration as finished:
+            complete, ending = True, f"finished: {finished.value or 'complete'}"
+            break
         try:
             miss, rest = x2 - x1 * x1, ONE - x1
             value = HUNDRED * (miss * miss) + rest * rest
         except (Inexact, Overflow):
             if recover is None:
-                complete = False
+                complete, ending = False, f"aborted: evaluation {at + 1} failed, attempts 1"
                 break
             value = recover
         texts = text_of(x1), text_of(x2), text_of(value)
@@ -81,7 +122,6 @@ def main():
     with open("t.dat", "w", encoding="ascii") as it:
         it.writelines(lines)
     count, fresh = len(rows), len(points)
-    ending = "finished: complete" if complete else f"aborted: evaluation {count + 1} failed, attempts 1"
     print(f"<<<<< Study {ending}")
     print(f"<<<<< Function evaluation summary: {count} total ({fresh} new, {count - fresh} duplicate)")
     if rows:
